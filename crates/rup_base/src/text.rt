@@ -3,6 +3,7 @@ ghost use Rattle.std.specs.Prelude.{◌≡◌, [], ◌∷◌, ◌++◌, ◌↔�
 
 use crate::no_memory::NoMemory;
 use std::alloc::Global;
+use std::fmt;
 use std::marker::Model;
 
 /// Bytes. Nothing is said of their encoding: what the compiler prints is ASCII, and a file may hold any byte.
@@ -83,6 +84,16 @@ impl Text {
         ensures no_memory { OnErr result (self.new ≡ self.old) }
     {
         self.bytes.extend_from_slice(bytes)?;
+        Ok(())
+    }
+}
+
+/// Each byte as the character of its number.
+impl fmt::Display for Text {
+    fn fmt<W: fmt::Write>(&self, f: &mut fmt::Formatter<W>) -> fmt::Result {
+        for byte in self.as_slice() {
+            write!(f, "{}", char::from(*byte))?;
+        }
         Ok(())
     }
 }

@@ -2,4 +2,8 @@
 #![tactic(auto)]
 
 mod derivation;
+mod derivation_file;
+mod judgement;
 mod literal_model;
+mod model_reader;
+mod node_list;

@@ -1,0 +1,4 @@
+pub mod Parts
+pub mod Preorder
+pub mod Spelled
+pub mod Numbers

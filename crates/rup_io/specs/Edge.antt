@@ -1,5 +1,5 @@
 -- What the trusted edge keeps of itself, and how it reads and writes where the bytes of a file or a writer are known.
-use Rattle.std.specs.Prelude.{◌≡◌, ℕ, ◌≤◌, List, Option, Some, None, Result, Ok, Err, ⊤, ◌+◌, length}
+use Rattle.std.specs.Prelude.{◌≡◌, ℕ, ◌≤◌, List, Option, Some, Result, Ok, Err, ⊤, ◌+◌, length}
 use Rattle.std.specs.Io.KnownBytes.{Consumes, IsAtEnd}
 use Rattle.rup_io.specs.declared.fetch.FetchFault.{FetchFault}
 use Rattle.rup_io.specs.declared.fetch.FetchFault.TheVariants.{Failed, TooLong, NoMemory}

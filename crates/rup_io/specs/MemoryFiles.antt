@@ -1,5 +1,5 @@
 -- Files in memory, of which each answer is known.
-use Rattle.std.specs.Prelude.{◌≡◌, ℕ, ◌≤◌, Bool, true, false, List, Option, Some, None, Result, Ok, Err, ⊤, if◌then◌else◌, nat_le, length}
+use Rattle.std.specs.Prelude.{◌≡◌, ℕ, Bool, true, false, List, Option, Some, None, Result, Ok, Err, ⊤, if◌then◌else◌, nat_le, length}
 use Rattle.rup_io.specs.declared.fetch.FetchFault.{FetchFault}
 use Rattle.rup_io.specs.declared.fetch.FetchFault.TheVariants.{Failed, TooLong, NoMemory}
 use Rattle.rup_io.specs.Count.{raised, is_to_fail}

@@ -1,5 +1,5 @@
 //! Files of the file system. What a disk holds, no contract can say: this is a trusted edge.
-ghost use Rattle.std.specs.Prelude.{◌≡◌, None, option_map};
+ghost use Rattle.std.specs.Prelude.{◌≡◌, None, option_copied};
 ghost use Rattle.rup_io.specs.Edge.{after_fetch, ReadsWithin};
 ghost use Rattle.rup_io.specs.Files.{FetchCause, FetchGives};
 
@@ -51,7 +51,7 @@ impl<'a, R: SystemFiles> DiskFiles<'a, R> {
 
     /// The name of the last fetch that failed.
     pub fn last(&self) -> Option<&Text>
-        ensures { option_map (λ name. name.now) result ≡ self.now.last }
+        ensures { option_copied result ≡ self.now.last }
     {
         self.last.as_ref()
     }
@@ -80,7 +80,12 @@ impl<R: SystemFiles> Files for DiskFiles<'_, R> {
 }
 
 /// The bytes of the file at this path.
-fn read_file<R: SystemFiles>(rt: &R, alloc: Global, path: &str, limit: u32) -> Result<Text, FetchFault>
+fn read_file<R: SystemFiles>(
+    rt: &R,
+    alloc: Global,
+    path: &str,
+    limit: u32,
+) -> Result<Text, FetchFault>
     ensures { FetchGives None path.now limit result }
 {
     let Ok(mut file) = fs::open(rt, path) else {
@@ -90,7 +95,11 @@ fn read_file<R: SystemFiles>(rt: &R, alloc: Global, path: &str, limit: u32) -> R
 }
 
 /// The bytes of a reader to its end. Where it has more than `limit`, one more than `limit` are read.
-fn read_within<F: Read>(alloc: Global, file: &mut F, limit: u32) -> Result<Text, FetchFault>
+pub(crate) fn read_within<F: Read>(
+    alloc: Global,
+    file: &mut F,
+    limit: u32,
+) -> Result<Text, FetchFault>
     ensures { ReadsWithin (F.remaining file.old) (F.remaining file.new) limit result }
 {
     let mut chunk = [0; CHUNK];

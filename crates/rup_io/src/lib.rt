@@ -17,3 +17,6 @@ pub use memory_files::MemFiles;
 pub use memory_sink::MemSink;
 pub use output::{Sink, SinkFailed};
 pub use stream::StdSink;
+
+#[cfg(test)]
+mod tests;

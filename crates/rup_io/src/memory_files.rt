@@ -1,5 +1,5 @@
 //! Files in memory, of which each answer is known: for tests, and for callers that hold their files.
-ghost use Rattle.std.specs.Prelude.{◌≡◌, false, Some, None, option_map};
+ghost use Rattle.std.specs.Prelude.{◌≡◌, false, Some, None, option_copied};
 ghost use Rattle.rup_io.specs.Files.{file_of, FetchCause, FetchGives};
 ghost use Rattle.rup_io.specs.MemoryFiles.{fetched, Answers, after_fetch, answer_of};
 
@@ -57,7 +57,7 @@ impl MemFiles {
 
     /// The name of the last call that failed.
     pub fn last(&self) -> Option<&Text>
-        ensures { option_map (λ name. name.now) result ≡ self.now.last }
+        ensures { option_copied result ≡ self.now.last }
     {
         self.last.as_ref()
     }
@@ -93,7 +93,7 @@ impl Files for MemFiles {
 
 /// The bytes of the first file with this name.
 fn find<'a>(files: &'a [(Text, Text)], name: &str) -> Option<&'a Text>
-    ensures { option_map (λ bytes. bytes.now) result ≡ file_of files.now name.now }
+    ensures { option_copied result ≡ file_of files.now name.now }
 {
     let mut left = files;
     while let [(held, bytes), rest @ ..] = left {

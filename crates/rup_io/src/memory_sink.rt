@@ -81,9 +81,13 @@ impl Sink for MemSink {
     {
         let is_to_fail = is_listed(self.fails.as_slice(), self.calls);
         self.calls = self.calls.saturating_add(1);
-        let room = if is_to_fail { 0 } else { self.capacity as usize - self.taken.len() };
+        let room = if is_to_fail {
+            0
+        } else {
+            self.capacity as usize - self.taken.len()
+        };
         let count = bytes.len().min(room);
-        let _ = self.taken.extend_from_slice(&bytes[..count]);
+        self.taken.extend_from_slice(&bytes[..count]).unwrap();
         if is_to_fail || count < bytes.len() {
             self.faults = self.faults.saturating_add(1);
             return Err(SinkFailed);

@@ -29,7 +29,7 @@ taken_after : (bytes left : List ℕ) (count : ℕ) → left ≡ drop (length by
 taken_after bytes left count rest bound =
     let taken : take (length bytes - length left) bytes ++ take count left ≡ take (length bytes - length (drop count left)) bytes =
     ap (λ piece. take (length bytes - length left) bytes ++ take count piece) rest ∙ sym (take-add (length bytes - length left) count bytes)
-        ∙ ap (λ n. take n bytes) (sym (start_after bytes left count rest bound)) in
+    ∙ ap (λ n. take n bytes) (sym (start_after bytes left count rest bound)) in
     rw (take_rest left count) taken
 
 appends_after : (first middle last : Option (List ℕ)) (bytes left : List ℕ) (count : ℕ) → left ≡ drop (length bytes - length left) bytes → count ≤ length left

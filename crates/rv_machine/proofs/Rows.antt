@@ -18,15 +18,18 @@ pub executed_addi : (s : State) (w d r i : ℕ) → opcode w ≡ 19 → funct3 w
 unfolding executed gives
 executed_addi s w d r i row variant destination source immediate = rw (row, variant, destination, source, immediate)
 
-pub executed_lw : (s : State) (w d a value : ℕ) → opcode w ≡ 3 → funct3 w ≡ 2 → rd w ≡ d → plus (register s.regs (rs1 w)) (immediate_i w) ≡ a → a % 4 ≡ 0 → number_at s.mem 4 a ≡ Some value → executed s w ≡ Ok (record { regs = with_register s.regs d value; pc = plus s.pc 4; mem = s.mem })
+pub executed_lw : (s : State) (w d r i a value : ℕ) → opcode w ≡ 3 → funct3 w ≡ 2 → rd w ≡ d → rs1 w ≡ r → immediate_i w ≡ i → plus (register s.regs r) i ≡ a → a % 4 ≡ 0 → number_at s.mem 4 a ≡ Some value → executed s w ≡ Ok (record { regs = with_register s.regs d value; pc = plus s.pc 4; mem = s.mem })
 unfolding executed loads gives
-executed_lw s w d a value row variant destination address aligned stands = rw (row, variant, address, aligned, stands, destination)
+executed_lw s w d r i a value row variant destination source immediate address aligned stands =
+    rw (row, variant, source, immediate, address, aligned, stands, destination)
 
-pub executed_sw : (s : State) (w r a : ℕ) → opcode w ≡ 35 → funct3 w ≡ 2 → rs2 w ≡ r → plus (register s.regs (rs1 w)) (immediate_s w) ≡ a → a % 4 ≡ 0 → IsSome (number_at s.mem 4 a) → executed s w ≡ Ok (record { regs = s.regs; pc = plus s.pc 4; mem = with_number s.mem 4 a (register s.regs r) })
+pub executed_sw : (s : State) (w q r i a : ℕ) → opcode w ≡ 35 → funct3 w ≡ 2 → rs2 w ≡ q → rs1 w ≡ r → immediate_s w ≡ i → plus (register s.regs r) i ≡ a → a % 4 ≡ 0 → IsSome (number_at s.mem 4 a) → executed s w ≡ Ok (record { regs = s.regs; pc = plus s.pc 4; mem = with_number s.mem 4 a (register s.regs q) })
 unfolding executed stores
-executed_sw s w r a row variant source address aligned mapped = rw (row, variant, address, aligned, mapped, source)
+executed_sw s w q r i a row variant value source immediate address aligned mapped =
+    rw (row, variant, source, immediate, address, aligned, mapped, value)
 
 -- JALR: the destination gets the place behind it
-pub executed_jalr : (s : State) (w d a : ℕ) → opcode w ≡ 103 → funct3 w ≡ 0 → rd w ≡ d → plus (register s.regs (rs1 w)) (immediate_i w) / 2 * 2 ≡ a → a % 4 ≡ 0 → executed s w ≡ Ok (record { regs = with_register s.regs d (plus s.pc 4); pc = a; mem = s.mem })
+pub executed_jalr : (s : State) (w d r i a : ℕ) → opcode w ≡ 103 → funct3 w ≡ 0 → rd w ≡ d → rs1 w ≡ r → immediate_i w ≡ i → plus (register s.regs r) i / 2 * 2 ≡ a → a % 4 ≡ 0 → executed s w ≡ Ok (record { regs = with_register s.regs d (plus s.pc 4); pc = a; mem = s.mem })
 unfolding executed jumps
-executed_jalr s w d a row variant destination target aligned = rw (row, variant, target, aligned, destination)
+executed_jalr s w d r i a row variant destination source immediate target aligned =
+    rw (row, variant, source, immediate, target, aligned, destination)

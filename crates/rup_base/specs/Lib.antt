@@ -1,0 +1,5 @@
+pub mod Answers
+pub mod Gather
+pub mod Name
+pub mod Word
+pub mod formers

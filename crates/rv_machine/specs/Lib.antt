@@ -1,0 +1,4 @@
+pub mod Word
+pub mod Fields
+pub mod State
+pub mod Step

@@ -14,19 +14,20 @@ pub executed_lui : (s : State) (w d value : ℕ) → opcode w ≡ 55 → rd w �
 unfolding executed gives
 executed_lui s w d value row destination immediate = rw (row, destination, immediate)
 
-pub executed_addi : (s : State) (w d r i : ℕ) → opcode w ≡ 19 → funct3 w ≡ 0 → rd w ≡ d → rs1 w ≡ r → immediate_i w ≡ i → executed s w ≡ Ok (record { regs = with_register s.regs d (plus (register s.regs r) i); pc = plus s.pc 4; mem = s.mem })
+pub executed_addi : (s : State) (w d r i value : ℕ) → opcode w ≡ 19 → funct3 w ≡ 0 → rd w ≡ d → rs1 w ≡ r → immediate_i w ≡ i → plus (register s.regs r) i ≡ value → executed s w ≡ Ok (record { regs = with_register s.regs d value; pc = plus s.pc 4; mem = s.mem })
 unfolding executed gives
-executed_addi s w d r i row variant destination source immediate = rw (row, variant, destination, source, immediate)
+executed_addi s w d r i value row variant destination source immediate sum =
+    rw (row, variant, destination, source, immediate, sum)
 
 pub executed_lw : (s : State) (w d r i a value : ℕ) → opcode w ≡ 3 → funct3 w ≡ 2 → rd w ≡ d → rs1 w ≡ r → immediate_i w ≡ i → plus (register s.regs r) i ≡ a → a % 4 ≡ 0 → number_at s.mem 4 a ≡ Some value → executed s w ≡ Ok (record { regs = with_register s.regs d value; pc = plus s.pc 4; mem = s.mem })
 unfolding executed loads gives
 executed_lw s w d r i a value row variant destination source immediate address aligned stands =
     rw (row, variant, source, immediate, address, aligned, stands, destination)
 
-pub executed_sw : (s : State) (w q r i a : ℕ) → opcode w ≡ 35 → funct3 w ≡ 2 → rs2 w ≡ q → rs1 w ≡ r → immediate_s w ≡ i → plus (register s.regs r) i ≡ a → a % 4 ≡ 0 → IsSome (number_at s.mem 4 a) → executed s w ≡ Ok (record { regs = s.regs; pc = plus s.pc 4; mem = with_number s.mem 4 a (register s.regs q) })
+pub executed_sw : (s : State) (w q r i a value : ℕ) → opcode w ≡ 35 → funct3 w ≡ 2 → rs2 w ≡ q → rs1 w ≡ r → immediate_s w ≡ i → register s.regs q ≡ value → plus (register s.regs r) i ≡ a → a % 4 ≡ 0 → IsSome (number_at s.mem 4 a) → executed s w ≡ Ok (record { regs = s.regs; pc = plus s.pc 4; mem = with_number s.mem 4 a value })
 unfolding executed stores
-executed_sw s w q r i a row variant value source immediate address aligned mapped =
-    rw (row, variant, source, immediate, address, aligned, mapped, value)
+executed_sw s w q r i a value row variant stored source immediate value_is address aligned mapped =
+    rw (row, variant, source, immediate, address, aligned, mapped, stored, value_is)
 
 -- JALR: the destination gets the place behind it
 pub executed_jalr : (s : State) (w d r i a : ℕ) → opcode w ≡ 103 → funct3 w ≡ 0 → rd w ≡ d → rs1 w ≡ r → immediate_i w ≡ i → plus (register s.regs r) i / 2 * 2 ≡ a → a % 4 ≡ 0 → executed s w ≡ Ok (record { regs = with_register s.regs d (plus s.pc 4); pc = a; mem = s.mem })

@@ -12,24 +12,13 @@ use Rattle.rv_machine.specs.Step.{executed, step}
 use Rattle.rv_machine.proofs.Memory.{is_some-number_at, number_at-with_number}
 use Rattle.rv_machine.proofs.Registers.{register-with_register_same, register-with_register_other}
 use Rattle.rv_machine.proofs.Runs.{Leads}
+use Rattle.rup_top.specs.Literal.{instructions_of}
 use Rattle.rup_top.proofs.Instructions.{does_lui, does_addi, does_lw, does_sw, does_jalr}
 use Rattle.rup_top.proofs.Frame.{Frame, InCode, InFrame, IsKept, IsScratch, Entered, Unchanged, At, run_at, set_at, move_sp_at, save_at, slot_mapped, begins, unchanged_at_entry}
 use Rattle.rup_top.proofs.Call.{Returned, frame_taken, literal_saved, result_loaded, frame_given_back, returns_at}
 
--- the upper part is rounded, since the lower part has a sign
-abbrev pub literal_code : ℕ → List Instr
-literal_code value =
-    Addi (reg 2) (reg 2) (imm12 4080)
-    ∷ Lui (reg 5) (imm20 ((value + 2048) / 4096))
-    ∷ Addi (reg 5) (reg 5) (imm12 value)
-    ∷ Sw (reg 2) (reg 5) (imm12 0)
-    ∷ Lw (reg 10) (reg 2) (imm12 0)
-    ∷ Addi (reg 2) (reg 2) (imm12 16)
-    ∷ Jalr (reg 0) (reg 1) (imm12 0)
-    ∷ []
-
 abbrev pub literal_frame : ℕ → ℕ → ℕ → Frame
-literal_frame start bottom value = record { start = start; words = map word_of (literal_code value); bottom = bottom; slots = 4 }
+literal_frame start bottom value = record { start = start; words = map word_of (instructions_of value); bottom = bottom; slots = 4 }
 
 -- the result outlives the frame
 result_kept : (returned given loaded : List ℕ) (value : ℕ) → returned ≡ given → ((r : ℕ) → r ≢ 2 → register given r ≡ register loaded r) → register loaded 10 ≡ value → register returned 10 ≡ value

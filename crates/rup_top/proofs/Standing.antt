@@ -6,6 +6,7 @@ use Rattle.std.specs.Int.{w32, to_le_bytes}
 use Rattle.rv_machine.specs.State.{Bytes, number_at}
 use Rattle.rv_machine.proofs.Memory.{number_at_four}
 use Rattle.rup_top.specs.Image.{Image, lists, fixed_fields, header_length, code_offset, spelling}
+use Rattle.rup_top.specs.Literal.{bytes_of}
 use Rattle.rup_top.specs.Ready.{Stands}
 
 slice_get-append_left : (xs ys : List ℕ) (k b : ℕ) → slice_get xs k ≡ Some b → slice_get (xs ++ ys) k ≡ Some b
@@ -27,10 +28,6 @@ stands_back mem start xs ys stands k b found =
     let there = stands (length xs + k) b (slice_get-append_right xs ys k ∙ found) in
     let place : start + (length xs + k) ≡ start + length xs + k = omega arith in
     rw (← place) there
-
--- the words, little endian
-abbrev pub bytes_of : List ℕ → List ℕ
-bytes_of words = flat_map (to_le_bytes w32) words
 
 pub word_stands : (mem : Bytes) (start w : ℕ) → w < 2 ^ 32 → Stands mem start (to_le_bytes w32 w) → number_at mem 4 start ≡ Some w
 word_stands mem start w below stands =

@@ -5,3 +5,4 @@ pub mod Ready
 pub mod Good
 pub mod Derivation
 pub mod Written
+pub mod Literal

@@ -2,4 +2,5 @@
 #![tactic(auto)]
 
 mod derivation;
+mod literal_image;
 mod literal_model;

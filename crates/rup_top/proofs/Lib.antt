@@ -2,3 +2,9 @@ pub mod Parts
 pub mod Preorder
 pub mod Spelled
 pub mod Numbers
+pub mod Instructions
+pub mod Standing
+pub mod Frame
+pub mod Call
+pub mod Literal
+pub mod LiteralImage

@@ -8,3 +8,4 @@ pub mod Written
 pub mod Reading
 pub mod Judgement
 pub mod Parts
+pub mod Literal

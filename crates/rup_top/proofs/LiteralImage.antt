@@ -1,0 +1,149 @@
+-- The image that returns a literal is good for the model, and is written.
+use Rattle.std.proofs.Common.{◌≡◌, ◌≢◌, ℕ, zero, suc, ◌+◌, ◌-◌, ◌*◌, ◌/◌, ◌%◌, ◌^◌, ◌<◌, ◌≤◌, ◌⊎◌, inl, inr, ⊎_elim, List, [], ◌∷◌, ◌++◌, map, length, Option, Some, None, Ok, IsSome, slice_get, refl, sym, ap, ◌∙◌, subst, arith}
+use Rattle.std.specs.Prelude.{⊤, sum_by}
+use Rattle.std.specs.List.{AllByRecursion}
+use Rattle.std.specs.FinMap.{get}
+use Rattle.std.proofs.lemmas.Bool.{cases_lt}
+use Rattle.rup_base.specs.declared.arg.Arg.{Arg}
+use Rattle.rv_code.specs.Word.{word_of}
+use Rattle.rv_machine.specs.State.{State, register, number_at}
+use Rattle.rv_machine.specs.Step.{after}
+use Rattle.rv_machine.proofs.Runs.{Leads}
+use Rattle.rup_top.specs.declared.literal_model.LiteralModel.{LiteralModel}
+use Rattle.rup_top.specs.declared.derivation.Derivation.{Derivation}
+use Rattle.rup_top.specs.declared.derivation.Node.{Node}
+use Rattle.rup_top.specs.Image.{Image, Term, Layout, IsWithinLimits, spelling, image_length, code_offset}
+use Rattle.rup_top.specs.Arguments.{symbol_values, bound_value}
+use Rattle.rup_top.specs.Ready.{Within, Ready, image_range, stack_range}
+use Rattle.rup_top.specs.Good.{IsSaved, IsUnderWay, Returns, Returned, Good}
+use Rattle.rup_top.specs.Derivation.{Instance, AreInstances, node_weight, weight, bound}
+use Rattle.rup_top.specs.Literal.{instructions_of, bytes_of, image_of}
+use Rattle.rup_top.specs.Written.{Written}
+use Rattle.rup_top.proofs.Standing.{words_stand, code_stands}
+use Rattle.rup_top.proofs.Frame.{Frame, InCode, InFrame, IsKept, Entered, Unchanged}
+use Rattle.rup_top.proofs.Call as call
+use Rattle.rup_top.proofs.Literal.{literal_frame, literal_returns}
+
+-- each instruction's word has 32 bits
+all_at : (P : ℕ → Type 0) (xs : List ℕ) (k x : ℕ) → AllByRecursion P xs → slice_get xs k ≡ Some x → P x
+all_at P [] k x all found = absurd (cc)
+all_at P (y ∷ xs) zero x all found = let same : y ≡ x = cc in subst P same all.0
+all_at P (y ∷ xs) (suc k) x all found = all_at P xs k x all.1 found
+
+abbrev IsWord : ℕ → Type 0
+IsWord n = n < 2 ^ 32
+
+literal_words : (value : ℕ) → AllByRecursion IsWord (map word_of (instructions_of value))
+literal_words value = (omega arith, (omega arith, (omega arith, (omega arith, (omega arith, (omega arith, (omega arith, tt)))))))
+
+abbrev frame_at : ℕ → ℕ → State → Frame
+frame_at value base s = literal_frame (base + 80) (register s.regs 2 - 16) value
+
+-- a ready state is one at the entry of the code
+entered : (m : LiteralModel) (args : List Arg) (base : ℕ) (s : State) → Ready m (image_of m.value) args base s → Entered (frame_at m.value base s) s
+entered m args base s ready =
+    let i = image_of m.value in
+    let words = map word_of (instructions_of m.value) in
+    let sp_fits : 16 ≤ register s.regs 2 = ready.stack_fits in
+    let image_ends : base + 108 ≤ 2 ^ 32 = ready.mapped.0.ends in
+    let code : (k w : ℕ) → slice_get words k ≡ Some w → number_at s.mem 4 (base + 80 + 4 * k) ≡ Some w =
+        λ k w found. words_stand s.mem words (base + 80) k w (code_stands s.mem base i ready.image_stands) found (all_at IsWord words k w (literal_words m.value) found) in
+    record {
+      aligned = omega (arith, ready.base_aligned);
+      ends = omega (arith, image_ends);
+      bottom_aligned = omega (arith, ready.stack_aligned, sp_fits);
+      apart = λ a in_code in_frame. ready.apart.0.0 a (omega (arith, in_code.0), omega (arith, in_code.1)) (in_frame.0, omega (arith, in_frame.1));
+      code = code;
+      pc = ready.starts;
+      count = ready.machine.registers;
+      sp = omega (arith, sp_fits);
+      sp_below = omega (arith, sp_fits, ready.machine.words 2);
+      mapped = λ a in_frame. ready.mapped.1.0.inside a (in_frame.0, omega (arith, in_frame.1));
+    }
+
+literal_within : (value : ℕ) → IsWithinLimits (image_of value)
+literal_within value =
+    record {
+      version_is = refl;
+      code_whole = refl;
+      code_some = omega arith;
+      code_most = omega arith;
+      tables_most = omega arith;
+      entry_whole = refl;
+      entry_from = omega arith;
+      entry_below = omega arith;
+      stack_whole = refl;
+      stack_most = omega arith;
+      params_fit = tt;
+      registers_most = omega arith;
+      requires_most = omega arith;
+      requires_fit = tt;
+      rets_fit = tt;
+      bound_fits = (tt, omega arith, omega arith, omega arith, tt);
+    }
+
+-- a saved register other than sp is one that the code keeps
+kept_of_saved : (r : ℕ) → IsSaved r → r ≢ 2 → IsKept r
+kept_of_saved r (inl low) other = record { not_sp = other; not_temporary = λ h. omega (arith, low.1); not_argument = λ h. omega (arith, low.1); below = omega (arith, low.1) }
+kept_of_saved r (inr (inl middle)) other = record { not_sp = other; not_temporary = λ h. omega (arith, middle.0); not_argument = λ h. omega (arith, middle.1); below = omega (arith, middle.1) }
+kept_of_saved r (inr (inr high)) other = record { not_sp = other; not_temporary = λ h. omega (arith, high.0); not_argument = λ h. omega (arith, high.0); below = omega (arith, high.1) }
+
+saved_registers : (f : Frame) (m : State) (n : ℕ) (u : State) → call.Returned f m n u → (r : ℕ) → IsSaved r → register u.regs r ≡ register m.regs r
+saved_registers f m n u returned r saved = by_order (cases_lt r 2) (cases_lt 2 r)
+  where
+    by_order : (r < 2) ⊎ (2 ≤ r) → (2 < r) ⊎ (r ≤ 2) → register u.regs r ≡ register m.regs r
+    by_order (inl below) other = returned.same.kept r (kept_of_saved r saved (λ e. omega arith))
+    by_order (inr above) (inl beyond) = returned.same.kept r (kept_of_saved r saved (λ e. omega arith))
+    by_order (inr above) (inr most) = let two : 2 ≡ r = omega arith in subst (λ q. register u.regs q ≡ register m.regs q) two returned.sp_is
+
+under_way : (m : LiteralModel) (args : List Arg) (base : ℕ) (s : State) → Ready m (image_of m.value) args base s → (n : ℕ) (u : State) → call.Returned (frame_at m.value base s) s n u → (j : ℕ) → j < n → IsUnderWay (image_of m.value) base s j
+under_way m args base s ready n u returned j before =
+    let found = returned.run.inside j before in
+    let inside : Within (image_range (image_of m.value) base) found.0.pc = (omega (arith, found.2.0), omega (arith, found.2.1)) in
+    record { state = found.0; ran = found.1; in_image = inside; not_back = λ back. ready.return_outside (subst (λ pc. Within (image_range (image_of m.value) base) pc) back inside) }
+
+literal_runs : (m : LiteralModel) (args : List Arg) (base : ℕ) (s : State) → m.value < 2 ^ 32 → Ready m (image_of m.value) args base s → Returns m (image_of m.value) args base s
+literal_runs m args base s word ready =
+    let run = literal_returns (base + 80) (register s.regs 2 - 16) m.value s (entered m args base s ready) word ready.return_aligned (ready.machine.words 1) in
+    let returned = run.1 in
+    record {
+      steps = 7;
+      end = run.0;
+      ran = returned.run.runs;
+      back = returned.pc;
+      before = under_way m args base s ready 7 run.0 returned;
+      in_time = omega arith;
+      has_results = (run.2, tt);
+      saved = saved_registers (frame_at m.value base s) s 7 run.0 returned;
+      same_addresses = λ a. (returned.same.no_more a, returned.same.stay a);
+      others = λ a off_stack off_results. returned.same.others a (λ in_frame. off_stack (in_frame.0, omega (arith, in_frame.1)));
+    }
+
+pub literal_good : (m : LiteralModel) → m.value < 2 ^ 32 → Good m (image_of m.value)
+literal_good m word =
+    record { params_are = refl; requires_are = refl; rets_are = refl; returns = λ args base s ready. literal_runs m args base s word ready }
+
+-- the weight of an instance is 53
+weight_of_instances : (nodes : List Node) → AreInstances nodes → sum_by node_weight nodes ≡ 5
+weight_of_instances [] are = absurd are
+weight_of_instances (n ∷ []) are = absurd are
+weight_of_instances (n ∷ (k ∷ [])) are = rw (are.0, are.2)
+weight_of_instances (n ∷ (k ∷ (m ∷ ns))) are = absurd are
+
+pub literal_written : (m : LiteralModel) (d : Derivation) → m.value < 2 ^ 32 → Instance m d → Written m d (spelling (image_of m.value))
+literal_written m d word instance =
+    let five = weight_of_instances d.nodes instance.nodes_are in
+    record {
+      image = image_of m.value;
+      layout = record { within = literal_within m.value; bytes_are = refl };
+      version_is = refl;
+      bound_is = rw five;
+      code_size = rw five (omega arith);
+      good = literal_good m word;
+    }
+
+-- the header and the code behind it are written
+pub written_after_header : (m : LiteralModel) (header start image bytes : List ℕ) (words : List ℕ) → m.value < 2 ^ 32 → ((value : ℕ) → bytes_of header ++ (image_of value).code ≡ spelling (image_of value)) → start ≡ [] → image ≡ start ++ bytes_of header → words ≡ map word_of (instructions_of m.value) → bytes ≡ image ++ bytes_of words → (d : Derivation) → Instance m d → Written m d bytes
+written_after_header m header start image bytes words word completes empty first code second d instance =
+    let whole : bytes ≡ spelling (image_of m.value) = rw (second, first, empty, code) (completes m.value) in
+    subst (λ b. Written m d b) (sym whole) (literal_written m d word instance)

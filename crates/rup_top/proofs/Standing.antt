@@ -1,0 +1,60 @@
+-- Bytes that stand in the memory: parts of them, and the words that they make.
+use Rattle.std.proofs.Common.{◌≡◌, ℕ, zero, suc, ◌+◌, ◌-◌, ◌*◌, ◌/◌, ◌%◌, ◌^◌, ◌<◌, List, [], ◌∷◌, ◌++◌, length, replicate, Some, None, slice_get, refl, sym, ap, ◌∙◌, subst, arith, zero-add}
+use Rattle.std.specs.List.{flat_map}
+use Rattle.std.proofs.lemmas.List.{length-replicate}
+use Rattle.std.specs.Int.{w32, to_le_bytes}
+use Rattle.rv_machine.specs.State.{Bytes, number_at}
+use Rattle.rv_machine.proofs.Memory.{number_at_four}
+use Rattle.rup_top.specs.Image.{Image, lists, fixed_fields, header_length, code_offset, spelling}
+use Rattle.rup_top.specs.Literal.{bytes_of}
+use Rattle.rup_top.specs.Ready.{Stands}
+
+slice_get-append_left : (xs ys : List ℕ) (k b : ℕ) → slice_get xs k ≡ Some b → slice_get (xs ++ ys) k ≡ Some b
+slice_get-append_left [] ys k b found = absurd (cc)
+slice_get-append_left (x ∷ xs) ys zero b found = found
+slice_get-append_left (x ∷ xs) ys (suc k) b found = slice_get-append_left xs ys k b found
+
+slice_get-append_right : (xs ys : List ℕ) (k : ℕ) → slice_get (xs ++ ys) (length xs + k) ≡ slice_get ys k
+slice_get-append_right [] ys k = ap (slice_get ys) (zero-add k)
+slice_get-append_right (x ∷ xs) ys k =
+    let next : length (x ∷ xs) + k ≡ suc (length xs + k) = omega arith in
+    rw next (slice_get-append_right xs ys k)
+
+pub stands_front : (mem : Bytes) (start : ℕ) (xs ys : List ℕ) → Stands mem start (xs ++ ys) → Stands mem start xs
+stands_front mem start xs ys stands k b found = stands k b (slice_get-append_left xs ys k b found)
+
+pub stands_back : (mem : Bytes) (start : ℕ) (xs ys : List ℕ) → Stands mem start (xs ++ ys) → Stands mem (start + length xs) ys
+stands_back mem start xs ys stands k b found =
+    let there = stands (length xs + k) b (slice_get-append_right xs ys k ∙ found) in
+    let place : start + (length xs + k) ≡ start + length xs + k = omega arith in
+    rw (← place) there
+
+pub word_stands : (mem : Bytes) (start w : ℕ) → w < 2 ^ 32 → Stands mem start (to_le_bytes w32 w) → number_at mem 4 start ≡ Some w
+word_stands mem start w below stands =
+    let here : start + 0 ≡ start = omega arith in
+    let first = rw here at (stands 0 (w % 256) refl) in
+    let whole : w % 256 + 256 * (w / 256 % 256 + 256 * (w / 65536 % 256 + 256 * (w / 16777216 % 256))) ≡ w = omega arith in
+    number_at_four mem start (w % 256) (w / 256 % 256) (w / 65536 % 256) (w / 16777216 % 256) first (stands 1 _ refl) (stands 2 _ refl) (stands 3 _ refl) ∙ ap Some whole
+
+pub words_stand : (mem : Bytes) (words : List ℕ) (start k w : ℕ) → Stands mem start (bytes_of words) → slice_get words k ≡ Some w → w < 2 ^ 32 → number_at mem 4 (start + 4 * k) ≡ Some w
+words_stand mem [] start k w stands found below = absurd (cc)
+words_stand mem (x ∷ words) start zero w stands found below =
+    let here : start + 4 * 0 ≡ start = omega arith in
+    let same : x ≡ w = cc in
+    let front = stands_front mem start (to_le_bytes w32 x) (bytes_of words) stands in
+    rw (here, ← same) (word_stands mem start x (rw same below) front)
+words_stand mem (x ∷ words) start (suc k) w stands found below =
+    let place : start + 4 + 4 * k ≡ start + 4 * suc k = omega arith in
+    let back = stands_back mem start (to_le_bytes w32 x) (bytes_of words) stands in
+    rw (← place) (words_stand mem words (start + 4) k w back found below)
+
+-- the code of an image that stands in the memory stands at its offset
+pub code_stands : (mem : Bytes) (base : ℕ) (i : Image) → Stands mem base (spelling i) → Stands mem (base + code_offset i) i.code
+code_stands mem base i stands =
+    let fill = replicate (code_offset i - header_length i) 0 in
+    let fixed : length (fixed_fields i) ≡ 48 = refl in
+    let behind_fixed = stands_back mem base (fixed_fields i) (lists i ++ (fill ++ (i.code ++ i.tables))) stands in
+    let behind_lists = stands_back mem (base + length (fixed_fields i)) (lists i) (fill ++ (i.code ++ i.tables)) behind_fixed in
+    let behind_fill = stands_back mem (base + length (fixed_fields i) + length (lists i)) fill (i.code ++ i.tables) behind_lists in
+    let place : base + length (fixed_fields i) + length (lists i) + length fill ≡ base + code_offset i = omega (arith, fixed, length-replicate {A = ℕ} (code_offset i - header_length i) 0) in
+    rw (← place) (stands_front mem (base + length (fixed_fields i) + length (lists i) + length fill) i.code i.tables behind_fill)

@@ -8,3 +8,5 @@ pub mod Frame
 pub mod Call
 pub mod Literal
 pub mod LiteralImage
+pub mod Scripts
+pub mod Instances

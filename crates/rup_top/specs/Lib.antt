@@ -9,3 +9,6 @@ pub mod Reading
 pub mod Judgement
 pub mod Parts
 pub mod Literal
+pub mod Script
+pub mod Clauses
+pub mod Words

@@ -10,3 +10,7 @@ pub mod Literal
 pub mod LiteralImage
 pub mod Scripts
 pub mod Instances
+pub mod Ways
+pub mod Told
+pub mod Unique
+pub mod Headline

@@ -20,7 +20,7 @@ fault_answers held place name limit next before now last a rose named is =
 -- after a fetch, the rest of the script answers
 pub then_next : (held : Told) (place : ℕ) (name : List ℕ) (limit : ℕ) (next : List ℕ → Script) (before middle now : ℕ) (last : Option (List ℕ)) (a : Answer) (bytes : List ℕ)
     → Fetched held name limit bytes before middle → Answers held (next bytes) middle now last a → Answers held (asks place name limit next) before now last a
-then_next held place name limit next before middle now last a bytes fetched (inl comes) = inl (inr (bytes, fetched.holds, inl (fetched.fits, comes)))
+then_next held place name limit next before middle now last a bytes fetched (inl comes) = inl (bytes, fetched.holds, inl (fetched.fits, comes))
 then_next held place name limit next before middle now last a bytes fetched (inr (faulted, is)) =
     let P : ℕ → Type 0 = λ n. Rose n now in
     inr (record {

@@ -97,10 +97,10 @@ parts_of_spelling m is =
     ∙ ap (option_map (λ c. (m.name, m.local, word c))) (stripped_append (codes " ") (decimal m.value ++ tail))
     ∙ ap (λ w. Some (m.name, m.local, w)) (word_append (decimal m.value) tail value_all refl)
 
-abbrev Parts : Type 0
+abbrev pub Parts : Type 0
 Parts = List ℕ × List ℕ × List ℕ
 
-abbrev parts_or : Option Parts → Parts
+abbrev pub parts_or : Option Parts → Parts
 parts_or None = ([], [], [])
 parts_or (Some parts) = parts
 

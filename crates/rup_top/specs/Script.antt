@@ -56,17 +56,11 @@ pub data Script : Type 0 where
   comes_to : Verdict → Script
   asks : ℕ → List ℕ → ℕ → (List ℕ → Script) → Script
 
--- no file has the name, where the files are told
-abbrev pub IsAbsent : Told → List ℕ → Type 0
-IsAbsent None name = ⊥
-IsAbsent (Some files) name = file_of files name ≡ None
-
--- the outcome: a file that is absent is a read fault, one over its limit is refused, and else the script goes on with its bytes
+-- the outcome: a file over its limit is refused, and else the script goes on with its bytes; a file that is absent never gives bytes
 abbrev pub Comes : Told → Script → Answer → Type 0
 Comes held (comes_to verdict) a = Allows verdict a
 Comes held (asks place name limit next) a =
-    (IsAbsent held name × (a ≡ read_fault place))
-    ⊎ ((bytes : List ℕ) × Holds held name bytes × (((length bytes ≤ limit) × Comes held (next bytes) a) ⊎ ((limit < length bytes) × (a ≡ refused (TooLong place limit)))))
+    (bytes : List ℕ) × Holds held name bytes × (((length bytes ≤ limit) × Comes held (next bytes) a) ⊎ ((limit < length bytes) × (a ≡ refused (TooLong place limit))))
 
 -- the words whose files are fetched, as long as each fetch gives its bytes; where the files are not told, any bytes may come
 abbrev pub Reaches : Told → Script → ℕ → List ℕ → Type 0

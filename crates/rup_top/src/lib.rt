@@ -13,4 +13,7 @@ mod literal_model;
 mod model_reader;
 mod node_list;
 mod replay_command;
+mod top_call;
 mod words;
+
+pub use top_call::{Status, top};

@@ -1,3 +1,7 @@
+pub mod Parts
+pub mod Preorder
+pub mod Spelled
+pub mod Numbers
 pub mod Instructions
 pub mod Standing
 pub mod Frame

@@ -1,6 +1,6 @@
 -- Derivations: their file, which instances they are, the first fault of one that is none, and what they cost
 -- (Rupicola, PLDI 2022, section 3: a derivation is a tree of lemma instances; here each node names its rule).
-use Rattle.std.specs.Prelude.{◌≡◌, ◌≢◌, ℕ, zero, suc, ◌+◌, ◌^◌, ◌≤◌, Bool, true, false, ◌&&◌, ◌==◌, nat_eq, nat_le, List, [], ◌∷◌, length, Option, Some, None, option_map, option_and_then, ℤ, pos, negsuc, nat_abs, sum_by, codes, bytes_eq, IsUtf8, if◌then◌else◌}
+use Rattle.std.specs.Prelude.{◌≡◌, ◌≢◌, ℕ, ◌+◌, ◌-◌, ◌^◌, ◌≤◌, Bool, true, false, not, ◌&&◌, ◌==◌, nat_eq, nat_le, List, [], ◌∷◌, length, Option, Some, None, option_map, option_and_then, ℤ, pos, negsuc, nat_abs, sum_by, codes, bytes_eq, IsUtf8, if◌then◌else◌}
 use Rattle.serde_json.specs.Data.{Data, Items, no_items, item, Members, no_members, member}
 use Rattle.serde_json.specs.Read.{read}
 use Rattle.serde_json.specs.Events.{members_len}
@@ -46,10 +46,18 @@ abbrev pub is_empty : Items → Bool
 is_empty no_items = true
 is_empty (item d ds) = false
 
+abbrev pub if_list : Option Items → Bool
+if_list None = false
+if_list (Some ds) = is_empty ds
+
+abbrev pub is_empty_list : Data → Bool
+is_empty_list d = if_list (as_array d)
+
+
 abbrev pub node_of_parts : Data × Data × Data → Option Node
 node_of_parts parts =
-    option_and_then (λ rule. option_and_then (λ args. option_and_then (λ certs. only_if (is_empty certs) (record { rule = rule; args = args }))
-    (as_array parts.2)) (option_and_then arguments_of (as_array parts.1))) (option_and_then rule_of (as_str parts.0))
+    option_and_then (λ rule. option_and_then (λ args. only_if (is_empty_list parts.2) (record { rule = rule; args = args }))
+    (option_and_then arguments_of (as_array parts.1))) (option_and_then rule_of (as_str parts.0))
 
 abbrev pub node_of : Data → Option Node
 node_of d = option_and_then node_of_parts (option_and_then parts_of (as_array d))
@@ -62,44 +70,58 @@ abbrev pub is_let : Rule → Bool
 is_let SLet = true
 is_let ELit = false
 
-abbrev pub is_literal : Rule → Bool
-is_literal SLet = false
-is_literal ELit = true
-
 -- so many statements in preorder: each is a let before the literal that is its kid
 abbrev pub is_preorder : ℕ → List Node → Bool
-is_preorder zero [] = true
-is_preorder zero (n ∷ ns) = false
-is_preorder (suc count) [] = false
-is_preorder (suc count) (n ∷ []) = false
-is_preorder (suc count) (n ∷ (k ∷ ns)) = is_let n.rule && (is_literal k.rule && is_preorder count ns)
+is_preorder count [] = count == 0
+is_preorder count (n ∷ []) = false
+is_preorder count (n ∷ (k ∷ ns)) = not (count == 0) && (is_let n.rule && (not (is_let k.rule) && is_preorder (count - 1) ns))
 
 abbrev pub derivation_of_list : ℕ → List ℕ → List Node → Option Derivation
 derivation_of_list block model nodes =
     only_if (nat_le (length nodes) greatest_count && is_preorder block nodes) (record { model = model; nodes = nodes })
 
+-- the number of nodes of the outer block
+abbrev pub block_of : Data → Option ℕ
+block_of d = option_and_then (λ count. only_if (nat_le count greatest_count) count) (option_and_then as_u64 (as_number d))
+
+-- the one version
+abbrev pub is_version : Option ℕ → Bool
+is_version None = false
+is_version (Some v) = v == 1
+
+abbrev pub model_of : Data → Option (List ℕ)
+model_of d = option_and_then name_of (as_str d)
+
 abbrev pub derivation_of_parts : Data → Data → Data → Data → Option Derivation
 derivation_of_parts block version model nodes =
-    option_and_then (λ count. option_and_then (λ v. option_and_then (λ name. option_and_then (λ list. derivation_of_list count name list)
-    (option_and_then nodes_of (as_array nodes))) (option_and_then name_of (as_str model)))
-    (option_and_then (λ v. only_if (nat_eq v 1) v) (option_and_then as_u64 (as_number version))))
-    (option_and_then (λ count. only_if (nat_le count greatest_count) count) (option_and_then as_u64 (as_number block)))
+    option_and_then (λ count.
+      if is_version (option_and_then as_u64 (as_number version))
+      then option_and_then (λ name. option_and_then (λ list. derivation_of_list count name list) (option_and_then nodes_of (as_array nodes))) (model_of model)
+      else None)
+    (block_of block)
+
+abbrev pub are_four : Option Members → Bool
+are_four None = false
+are_four (Some members) = members_len members == 4
+
+abbrev pub has_four_members : Data → Bool
+has_four_members d = are_four (as_object d)
 
 -- exactly these members: there are four, and each of the four is there
-abbrev pub derivation_of_members : Data → Members → Option Derivation
-derivation_of_members d members =
-    if members_len members == 4
+abbrev pub derivation_of : Data → Option Derivation
+derivation_of d =
+    if has_four_members d
     then option_and_then (λ block. option_and_then (λ version. option_and_then (λ model. option_and_then (λ nodes. derivation_of_parts block version model nodes)
     (get (codes "nodes") d)) (get (codes "model") d)) (get (codes "deriv") d)) (get (codes "block") d)
     else None
-
-abbrev pub derivation_of : Data → Option Derivation
-derivation_of d = option_and_then (λ members. derivation_of_members d members) (as_object d)
 
 -- the bytes have a JSON value, as serde_json reads it
 pub record HasValue (bytes : List ℕ) (d : Data) : Type 0 where
   pub text : IsUtf8 bytes
   pub reads : read bytes ≡ Some d
+
+abbrev pub HasNoValue : List ℕ → Type 0
+HasNoValue bytes = (d : Data) → HasValue bytes d → ⊥
 
 -- the bytes are a derivation's file
 pub record File (bytes : List ℕ) (d : Derivation) : Type 0 where
@@ -110,9 +132,12 @@ pub record File (bytes : List ℕ) (d : Derivation) : Type 0 where
 -- ---- Instances, by node and condition.
 
 -- a local is from 0 to 65535; every one is free, since no scalar and no reserved local stands before the one statement
+abbrev pub greatest_local : ℕ
+greatest_local = 65_535
+
 abbrev pub IsLocal : List ℤ → Type 0
 IsLocal [] = ⊥
-IsLocal (pos l ∷ []) = l ≤ 65_535
+IsLocal (pos l ∷ []) = l ≤ greatest_local
 IsLocal (negsuc l ∷ []) = ⊥
 IsLocal (z ∷ (y ∷ zs)) = ⊥
 
@@ -133,16 +158,22 @@ abbrev pub first_of : Option (ℕ × ℕ) → Option (ℕ × ℕ) → Option (�
 first_of None other = other
 first_of (Some fault) other = Some fault
 
--- the number of arguments is condition 2, their range condition 3
-abbrev pub let_fault : List ℤ → Option (ℕ × ℕ)
-let_fault [] = Some (0, 2)
-let_fault (pos l ∷ []) = if nat_le l 65_535 then None else Some (0, 3)
-let_fault (negsuc l ∷ []) = Some (0, 3)
-let_fault (z ∷ (y ∷ zs)) = Some (0, 2)
+-- the shape is condition 1, the number of arguments condition 2, their range condition 3
+abbrev pub local_fault : List ℤ → Option (ℕ × ℕ)
+local_fault [] = Some (0, 2)
+local_fault (pos l ∷ []) = if nat_le l greatest_local then None else Some (0, 3)
+local_fault (negsuc l ∷ []) = Some (0, 3)
+local_fault (z ∷ (y ∷ zs)) = Some (0, 2)
 
-abbrev pub literal_fault : List ℤ → Option (ℕ × ℕ)
-literal_fault [] = None
-literal_fault (z ∷ zs) = Some (1, 2)
+abbrev pub let_fault : Node → Option (ℕ × ℕ)
+let_fault n = if is_let n.rule then local_fault n.args else Some (0, 1)
+
+abbrev pub no_arguments_fault : List ℤ → Option (ℕ × ℕ)
+no_arguments_fault [] = None
+no_arguments_fault (z ∷ zs) = Some (1, 2)
+
+abbrev pub literal_fault : Node → Option (ℕ × ℕ)
+literal_fault n = if is_let n.rule then Some (1, 1) else no_arguments_fault n.args
 
 -- a node without a statement left fails condition 1
 abbrev pub surplus_fault : List Node → Option (ℕ × ℕ)
@@ -153,7 +184,7 @@ surplus_fault (n ∷ ns) = Some (2, 1)
 abbrev pub nodes_fault : List Node → Option (ℕ × ℕ)
 nodes_fault [] = Some (0, 4)
 nodes_fault (n ∷ []) = Some (1, 1)
-nodes_fault (n ∷ (k ∷ ns)) = first_of (let_fault n.args) (first_of (literal_fault k.args) (surplus_fault ns))
+nodes_fault (n ∷ (k ∷ ns)) = first_of (first_of (let_fault n) (literal_fault k)) (surplus_fault ns)
 
 -- the node and the condition of the first fault; another model's name is condition 0 at node 0
 abbrev pub fault : LiteralModel → Derivation → Option (ℕ × ℕ)

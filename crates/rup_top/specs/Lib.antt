@@ -5,4 +5,7 @@ pub mod Ready
 pub mod Good
 pub mod Derivation
 pub mod Written
+pub mod Reading
+pub mod Judgement
+pub mod Parts
 pub mod Literal

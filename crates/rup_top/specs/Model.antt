@@ -1,5 +1,6 @@
 -- The models that are taken now: one `let` of a literal, and its name as the result. Their spelling, types and value.
-use Rattle.std.specs.Prelude.{◌≡◌, ℕ, List, [], ◌∷◌, ◌++◌, Option, None, codes, decimal}
+use Rattle.std.specs.Prelude.{◌≡◌, ℕ, ◌^◌, ◌<◌, List, [], ◌∷◌, ◌++◌, Option, None, IsTrue, codes, decimal}
+use Rattle.rup_base.specs.Name.{is_name}
 use Rattle.std.specs.List.{AllByRecursion}
 use Rattle.rup_base.specs.declared.arg.Kind.{Kind}
 use Rattle.rup_base.specs.declared.arg.Arg.{Arg}
@@ -14,9 +15,16 @@ spelling m =
     codes "(model " ++ (m.name ++ (codes " (params) (require) (do (let " ++ (m.local ++ (codes " " ++ (decimal m.value
     ++ (codes ")) (ret " ++ (m.local ++ codes "))\n")))))))
 
+-- its two names are names, and its literal is a word
+pub record IsModel (m : LiteralModel) : Type 0 where
+  pub named : IsTrue (is_name m.name)
+  pub local_named : IsTrue (is_name m.local)
+  pub is_word : m.value < 2 ^ 32
+
 -- the bytes are the model's canonical spelling
-abbrev pub Spells : List ℕ → LiteralModel → Type 0
-Spells bytes m = bytes ≡ spelling m
+pub record Spells (bytes : List ℕ) (m : LiteralModel) : Type 0 where
+  pub is_model : IsModel m
+  pub bytes_are : bytes ≡ spelling m
 
 abbrev pub parameters : LiteralModel → List Kind
 parameters m = []

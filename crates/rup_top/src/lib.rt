@@ -2,5 +2,9 @@
 #![tactic(auto)]
 
 mod derivation;
+mod derivation_file;
+mod judgement;
 mod literal_image;
 mod literal_model;
+mod model_reader;
+mod node_list;

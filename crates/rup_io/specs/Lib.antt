@@ -1,0 +1,6 @@
+pub mod Count
+pub mod Edge
+pub mod Files
+pub mod MemoryFiles
+pub mod MemorySink
+pub mod Sink

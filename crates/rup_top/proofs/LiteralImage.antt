@@ -110,7 +110,7 @@ pub good_by_fields : (value : ℕ) (taken given slot lower return : Imm12) (uppe
 good_by_fields value taken given slot lower return upper word taken_is given_is slot_is lower_is return_is upper_is m value_is =
     rw (taken_is, given_is, slot_is, lower_is, return_is, upper_is, ← value_is) (literal_good m (omega (arith, word, value_is)))
 
--- the weight of an instance is 53
+-- a `let` and a literal weigh 5
 weight_of_instances : (nodes : List Node) → AreInstances nodes → sum_by node_weight nodes ≡ 5
 weight_of_instances [] are = absurd are
 weight_of_instances (n ∷ []) are = absurd are

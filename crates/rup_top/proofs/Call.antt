@@ -1,19 +1,17 @@
 -- How code over a frame is entered and left, and how a literal comes into a slot.
-use Rattle.std.proofs.Common.{◌≡◌, ◌≢◌, ℕ, zero, suc, ◌+◌, ◌-◌, ◌*◌, ◌/◌, ◌%◌, ◌^◌, ◌<◌, ◌≤◌, List, [], ◌∷◌, map, length, Some, Ok, IsSome, slice_get, refl, sym, ap, ◌∙◌, subst, arith}
-use Rattle.std.specs.FinMap.{get}
-use Rattle.rv_code.specs.declared.instruction.Instr.{Instr}
+use Rattle.std.proofs.Common.{◌≡◌, ◌≢◌, ℕ, suc, ◌+◌, ◌-◌, ◌*◌, ◌/◌, ◌%◌, ◌^◌, ◌<◌, ◌≤◌, length, Some, Ok, IsSome, slice_get, refl, sym, ◌∙◌, arith}
 use Rattle.rv_code.specs.declared.instruction.Instr.TheVariants.{Lui, Jalr, Lw, Sw, Addi}
 use Rattle.rv_code.specs.Field.{reg, imm12, imm20}
 use Rattle.rv_code.specs.Word.{word_of}
 use Rattle.rv_machine.specs.Word.{plus}
 use Rattle.rv_machine.specs.Fields.{extended}
 use Rattle.rv_machine.specs.State.{State, register, with_register, number_at, with_number}
-use Rattle.rv_machine.specs.Step.{executed, step}
+use Rattle.rv_machine.specs.Step.{executed}
 use Rattle.rv_machine.proofs.Memory.{is_some-number_at, number_at-with_number}
 use Rattle.rv_machine.proofs.Registers.{register-with_register_same, register-with_register_other}
 use Rattle.rv_machine.proofs.Runs.{Leads}
 use Rattle.rup_top.proofs.Instructions.{does_lui, does_addi, does_lw, does_sw, does_jalr}
-use Rattle.rup_top.proofs.Frame.{Frame, InCode, InFrame, IsKept, IsScratch, Entered, Unchanged, At, run_at, set_at, move_sp_at, save_at, slot_mapped, begins, unchanged_at_entry}
+use Rattle.rup_top.proofs.Frame.{Frame, InCode, IsKept, IsScratch, Entered, Unchanged, At, run_at, set_at, move_sp_at, save_at, slot_mapped}
 
 -- after n steps from the entry m, the code has returned to where it was called from
 pub record Returned (f : Frame) (m : State) (n : ℕ) (s : State) : Type 0 where

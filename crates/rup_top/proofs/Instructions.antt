@@ -1,12 +1,12 @@
 -- What each instruction that the emitted code has does.
-use Rattle.std.proofs.Common.{◌≡◌, ℕ, ◌+◌, ◌*◌, ◌/◌, ◌%◌, ◌^◌, ◌<◌, Some, Ok, IsSome, refl, ap, arith}
+use Rattle.std.proofs.Common.{◌≡◌, ℕ, ◌+◌, ◌*◌, ◌/◌, ◌%◌, Some, Ok, IsSome, ap, arith}
 use Rattle.rv_code.specs.declared.fields.Reg.{Reg}
 use Rattle.rv_code.specs.declared.fields.Imm12.{Imm12}
 use Rattle.rv_code.specs.declared.fields.Imm20.{Imm20}
 use Rattle.rv_code.specs.declared.instruction.Instr.TheVariants.{Lui, Jalr, Lw, Sw, Addi}
-use Rattle.rv_code.specs.Word.{word_of, format_i, format_s, format_u}
+use Rattle.rv_code.specs.Word.{word_of}
 use Rattle.rv_machine.specs.Word.{plus}
-use Rattle.rv_machine.specs.Fields.{opcode, rd, funct3, rs1, rs2, extended, immediate_i, immediate_s, immediate_u}
+use Rattle.rv_machine.specs.Fields.{extended}
 use Rattle.rv_machine.specs.State.{State, register, with_register, number_at, with_number}
 use Rattle.rv_machine.specs.Step.{executed}
 use Rattle.rv_machine.proofs.Rows.{executed_lui, executed_addi, executed_lw, executed_sw, executed_jalr}

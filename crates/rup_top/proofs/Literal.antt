@@ -1,21 +1,25 @@
 -- The code that returns a literal: the frame is taken, the literal is put into slot 0, slot 0 is the result, the frame is given back.
-use Rattle.std.proofs.Common.{◌≡◌, ◌≢◌, ℕ, zero, suc, ◌+◌, ◌-◌, ◌*◌, ◌/◌, ◌%◌, ◌^◌, ◌<◌, ◌≤◌, List, [], ◌∷◌, map, length, Some, Ok, IsSome, slice_get, refl, sym, ap, ◌∙◌, subst, arith}
-use Rattle.std.specs.FinMap.{get}
+use Rattle.std.proofs.Common.{◌≡◌, ◌≢◌, ℕ, ◌+◌, ◌/◌, ◌%◌, ◌^◌, ◌<◌, List, [], ◌∷◌, map, refl, arith}
 use Rattle.rv_code.specs.declared.instruction.Instr.{Instr}
 use Rattle.rv_code.specs.declared.instruction.Instr.TheVariants.{Lui, Jalr, Lw, Sw, Addi}
 use Rattle.rv_code.specs.Field.{reg, imm12, imm20}
 use Rattle.rv_code.specs.Word.{word_of}
-use Rattle.rv_machine.specs.Word.{plus}
-use Rattle.rv_machine.specs.Fields.{extended}
-use Rattle.rv_machine.specs.State.{State, register, with_register, number_at, with_number}
-use Rattle.rv_machine.specs.Step.{executed, step}
-use Rattle.rv_machine.proofs.Memory.{is_some-number_at, number_at-with_number}
-use Rattle.rv_machine.proofs.Registers.{register-with_register_same, register-with_register_other}
-use Rattle.rv_machine.proofs.Runs.{Leads}
-use Rattle.rup_top.specs.Literal.{instructions_of}
-use Rattle.rup_top.proofs.Instructions.{does_lui, does_addi, does_lw, does_sw, does_jalr}
-use Rattle.rup_top.proofs.Frame.{Frame, InCode, InFrame, IsKept, IsScratch, Entered, Unchanged, At, run_at, set_at, move_sp_at, save_at, slot_mapped, begins, unchanged_at_entry}
+use Rattle.rv_machine.specs.State.{State, register}
+use Rattle.rup_top.proofs.Frame.{Frame, Entered, begins, unchanged_at_entry}
 use Rattle.rup_top.proofs.Call.{Returned, frame_taken, literal_saved, result_loaded, frame_given_back, returns_at}
+
+-- a frame of 16 bytes is taken, the literal is put into its slot 0, the slot is the result, and the frame is given back;
+-- the upper part of the literal is rounded, since the lower part has a sign
+abbrev pub instructions_of : ℕ → List Instr
+instructions_of value =
+    Addi (reg 2) (reg 2) (imm12 4080)
+    ∷ Lui (reg 5) (imm20 ((value + 2048) / 4096))
+    ∷ Addi (reg 5) (reg 5) (imm12 value)
+    ∷ Sw (reg 2) (reg 5) (imm12 0)
+    ∷ Lw (reg 10) (reg 2) (imm12 0)
+    ∷ Addi (reg 2) (reg 2) (imm12 16)
+    ∷ Jalr (reg 0) (reg 1) (imm12 0)
+    ∷ []
 
 abbrev pub literal_frame : ℕ → ℕ → ℕ → Frame
 literal_frame start bottom value = record { start = start; words = map word_of (instructions_of value); bottom = bottom; slots = 4 }

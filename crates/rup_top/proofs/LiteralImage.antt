@@ -1,28 +1,31 @@
 -- The image that returns a literal is good for the model, and is written.
-use Rattle.std.proofs.Common.{◌≡◌, ◌≢◌, ℕ, zero, suc, ◌+◌, ◌-◌, ◌*◌, ◌/◌, ◌%◌, ◌^◌, ◌<◌, ◌≤◌, ◌⊎◌, inl, inr, ⊎_elim, List, [], ◌∷◌, ◌++◌, map, length, Option, Some, None, Ok, IsSome, slice_get, refl, sym, ap, ◌∙◌, subst, arith}
-use Rattle.std.specs.Prelude.{⊤, sum_by}
+use Rattle.std.proofs.Common.{◌≡◌, ◌≢◌, ℕ, zero, suc, ◌+◌, ◌-◌, ◌*◌, ◌/◌, ◌%◌, ◌^◌, ◌<◌, ◌≤◌, ◌⊎◌, inl, inr, List, [], ◌∷◌, ◌++◌, map, length, Some, slice_get, refl, subst, arith}
+use Rattle.std.specs.Prelude.{sum_by}
 use Rattle.std.specs.List.{AllByRecursion}
-use Rattle.std.specs.FinMap.{get}
 use Rattle.std.proofs.lemmas.Bool.{cases_lt}
 use Rattle.rup_base.specs.declared.arg.Arg.{Arg}
+use Rattle.rv_code.specs.declared.fields.Imm12.{Imm12}
+use Rattle.rv_code.specs.declared.fields.Imm20.{Imm20}
+use Rattle.rv_code.specs.declared.instruction.Instr.TheVariants.{Lui, Jalr, Lw, Sw, Addi}
+use Rattle.rv_code.specs.Field.{reg}
 use Rattle.rv_code.specs.Word.{word_of}
 use Rattle.rv_machine.specs.State.{State, register, number_at}
-use Rattle.rv_machine.specs.Step.{after}
-use Rattle.rv_machine.proofs.Runs.{Leads}
 use Rattle.rup_top.specs.declared.literal_model.LiteralModel.{LiteralModel}
 use Rattle.rup_top.specs.declared.derivation.Derivation.{Derivation}
 use Rattle.rup_top.specs.declared.derivation.Node.{Node}
-use Rattle.rup_top.specs.Image.{Image, Term, Layout, IsWithinLimits, spelling, image_length, code_offset}
-use Rattle.rup_top.specs.Arguments.{symbol_values, bound_value}
-use Rattle.rup_top.specs.Ready.{Within, Ready, image_range, stack_range}
-use Rattle.rup_top.specs.Good.{IsSaved, IsUnderWay, Returns, Returned, Good}
-use Rattle.rup_top.specs.Derivation.{Instance, AreInstances, node_weight, weight, bound}
-use Rattle.rup_top.specs.Literal.{instructions_of, bytes_of, image_of}
+use Rattle.rup_top.specs.Image.{Image, Layout}
+use Rattle.rup_top.specs.Ready.{Within, Ready, image_range}
+use Rattle.rup_top.specs.Good.{IsSaved, IsUnderWay, Returns, Good}
+use Rattle.rup_top.specs.Derivation.{Instance, AreInstances, node_weight}
+use Rattle.rup_top.specs.Literal.{bytes_of, image_with}
 use Rattle.rup_top.specs.Written.{Written}
 use Rattle.rup_top.proofs.Standing.{words_stand, code_stands}
-use Rattle.rup_top.proofs.Frame.{Frame, InCode, InFrame, IsKept, Entered, Unchanged}
+use Rattle.rup_top.proofs.Frame.{Frame, IsKept, Entered}
 use Rattle.rup_top.proofs.Call as call
-use Rattle.rup_top.proofs.Literal.{literal_frame, literal_returns}
+use Rattle.rup_top.proofs.Literal.{instructions_of, literal_frame, literal_returns}
+
+abbrev image_of : ℕ → Image
+image_of value = image_with (bytes_of (map word_of (instructions_of value)))
 
 -- each instruction's word has 32 bits
 all_at : (P : ℕ → Type 0) (xs : List ℕ) (k x : ℕ) → AllByRecursion P xs → slice_get xs k ≡ Some x → P x
@@ -47,7 +50,7 @@ entered m args base s ready =
     let sp_fits : 16 ≤ register s.regs 2 = ready.stack_fits in
     let image_ends : base + 108 ≤ 2 ^ 32 = ready.mapped.0.ends in
     let code : (k w : ℕ) → slice_get words k ≡ Some w → number_at s.mem 4 (base + 80 + 4 * k) ≡ Some w =
-        λ k w found. words_stand s.mem words (base + 80) k w (code_stands s.mem base i ready.image_stands) found (all_at IsWord words k w (literal_words m.value) found) in
+    λ k w found. words_stand s.mem words (base + 80) k w (code_stands s.mem base i ready.image_stands) found (all_at IsWord words k w (literal_words m.value) found) in
     record {
       aligned = omega (arith, ready.base_aligned);
       ends = omega (arith, image_ends);
@@ -59,27 +62,6 @@ entered m args base s ready =
       sp = omega (arith, sp_fits);
       sp_below = omega (arith, sp_fits, ready.machine.words 2);
       mapped = λ a in_frame. ready.mapped.1.0.inside a (in_frame.0, omega (arith, in_frame.1));
-    }
-
-literal_within : (value : ℕ) → IsWithinLimits (image_of value)
-literal_within value =
-    record {
-      version_is = refl;
-      code_whole = refl;
-      code_some = omega arith;
-      code_most = omega arith;
-      tables_most = omega arith;
-      entry_whole = refl;
-      entry_from = omega arith;
-      entry_below = omega arith;
-      stack_whole = refl;
-      stack_most = omega arith;
-      params_fit = tt;
-      registers_most = omega arith;
-      requires_most = omega arith;
-      requires_fit = tt;
-      rets_fit = tt;
-      bound_fits = (tt, omega arith, omega arith, omega arith, tt);
     }
 
 -- a saved register other than sp is one that the code keeps
@@ -119,31 +101,31 @@ literal_runs m args base s word ready =
       others = λ a off_stack off_results. returned.same.others a (λ in_frame. off_stack (in_frame.0, omega (arith, in_frame.1)));
     }
 
-pub literal_good : (m : LiteralModel) → m.value < 2 ^ 32 → Good m (image_of m.value)
+literal_good : (m : LiteralModel) → m.value < 2 ^ 32 → Good m (image_of m.value)
 literal_good m word =
     record { params_are = refl; requires_are = refl; rets_are = refl; returns = λ args base s ready. literal_runs m args base s word ready }
 
--- the weight of an instance is 53
+-- the same of instructions whose fields have the right bits
+pub good_by_fields : (value : ℕ) (taken given slot lower return : Imm12) (upper : Imm20) → value < 2 ^ 32 → taken.bits ≡ 4080 → given.bits ≡ 16 → slot.bits ≡ 0 → lower.bits ≡ value % 4096 → return.bits ≡ 0 → upper.bits ≡ (value + 2048) / 4096 % 1048576 → (m : LiteralModel) → m.value ≡ value → Good m (image_with (bytes_of (map word_of (Addi (reg 2) (reg 2) taken ∷ Lui (reg 5) upper ∷ Addi (reg 5) (reg 5) lower ∷ Sw (reg 2) (reg 5) slot ∷ Lw (reg 10) (reg 2) slot ∷ Addi (reg 2) (reg 2) given ∷ Jalr (reg 0) (reg 1) return ∷ []))))
+good_by_fields value taken given slot lower return upper word taken_is given_is slot_is lower_is return_is upper_is m value_is =
+    rw (taken_is, given_is, slot_is, lower_is, return_is, upper_is, ← value_is) (literal_good m (omega (arith, word, value_is)))
+
+-- a `let` and a literal weigh 5
 weight_of_instances : (nodes : List Node) → AreInstances nodes → sum_by node_weight nodes ≡ 5
 weight_of_instances [] are = absurd are
 weight_of_instances (n ∷ []) are = absurd are
 weight_of_instances (n ∷ (k ∷ [])) are = rw (are.0, are.2)
 weight_of_instances (n ∷ (k ∷ (m ∷ ns))) are = absurd are
 
-pub literal_written : (m : LiteralModel) (d : Derivation) → m.value < 2 ^ 32 → Instance m d → Written m d (spelling (image_of m.value))
-literal_written m d word instance =
+-- the bytes are a header that is right for any code of this length, and then code that is good for the model
+pub written : (m : LiteralModel) (header code empty front bytes : List ℕ) → length code ≡ 28 → ((any : List ℕ) → length any ≡ 28 → Layout (image_with any) (header ++ any)) → Good m (image_with code) → empty ≡ [] → front ≡ empty ++ header → bytes ≡ front ++ code → (d : Derivation) → Instance m d → Written m d bytes
+written m header code empty front bytes size layout good empty_is front_is bytes_are d instance =
     let five = weight_of_instances d.nodes instance.nodes_are in
     record {
-      image = image_of m.value;
-      layout = record { within = literal_within m.value; bytes_are = refl };
+      image = image_with code;
+      layout = rw (bytes_are, front_is, empty_is) (layout code size);
       version_is = refl;
       bound_is = rw five;
-      code_size = rw five (omega arith);
-      good = literal_good m word;
+      code_size = rw five (omega (arith, size));
+      good = good;
     }
-
--- the header and the code behind it are written
-pub written_after_header : (m : LiteralModel) (header start image bytes : List ℕ) (words : List ℕ) → m.value < 2 ^ 32 → ((value : ℕ) → bytes_of header ++ (image_of value).code ≡ spelling (image_of value)) → start ≡ [] → image ≡ start ++ bytes_of header → words ≡ map word_of (instructions_of m.value) → bytes ≡ image ++ bytes_of words → (d : Derivation) → Instance m d → Written m d bytes
-written_after_header m header start image bytes words word completes empty first code second d instance =
-    let whole : bytes ≡ spelling (image_of m.value) = rw (second, first, empty, code) (completes m.value) in
-    subst (λ b. Written m d b) (sym whole) (literal_written m d word instance)

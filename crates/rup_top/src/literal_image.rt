@@ -1,10 +1,12 @@
 //! The image of a model that returns a literal: what a device loads and calls.
-ghost use Rattle.std.specs.Prelude.{◌≡◌, ℕ, ◌++◌, map, IfOk, OnOk};
+ghost use Rattle.std.specs.Prelude.{◌≡◌, ℕ, List, ◌++◌, map, length, IfOk, OnOk};
 ghost use Rattle.rv_code.specs.Word.{word_of};
 ghost use Rattle.rup_top.specs.declared.derivation.Derivation.{Derivation as Derived};
 ghost use Rattle.rup_top.specs.Derivation.{Instance};
-ghost use Rattle.rup_top.specs.Image.{spelling};
-ghost use Rattle.rup_top.specs.Literal.{instructions_of, bytes_of, image_of};
+ghost use Rattle.rup_top.specs.declared.literal_model.LiteralModel.{LiteralModel as Literal};
+ghost use Rattle.rup_top.specs.Good.{Good};
+ghost use Rattle.rup_top.specs.Image.{Layout};
+ghost use Rattle.rup_top.specs.Literal.{bytes_of, image_with};
 ghost use Rattle.rup_top.specs.Written.{Written};
 
 use crate::literal_model::LiteralModel;
@@ -22,33 +24,31 @@ const BOUND: u32 = 48 + 2 + 3;
 pub(crate) fn literal_image(alloc: Global, model: &LiteralModel) -> Result<Text, NoMemory>
     ensures { IfOk result (λ bytes. (d : Derived) → Instance model.now d → Written model.now d bytes) }
 {
-    let value = model.value;
     let mut image = Text::new(alloc);
     put_numbers(&mut image, &header())?;
-    put_code(&mut image, &literal_code(value))?;
+    put_code(&mut image, &literal_code(model.value))?;
     Ok(image)
 }
 
 /// The numbers before the code, of four bytes each: with the code behind them, they are the image.
 fn header() -> [u32; 20]
-    ensures { (value : ℕ) → bytes_of result ++ (image_of value).code ≡ spelling (image_of value) }
+    ensures { (code : List ℕ) → length code ≡ 28 → Layout (image_with code) (bytes_of result ++ code) }
 {
     let code_offset = 80;
     let code_length = 28;
+    let entry = code_offset;
     let scalar = u32::MAX;
-    let constant = u32::MAX;
+    let no_symbol = u32::MAX;
     [
-        // the bytes 52 55 50 31
+        // the bytes 52 55 50 31, and the version
         0x3150_5552,
-        // the version
         1,
         code_offset + code_length,
         code_offset,
         code_length,
-        // the tables' length
+        // no tables
         0,
-        // the entry
-        code_offset,
+        entry,
         FRAME,
         // no parameters, no requirements, one result, and a bound of one term
         0,
@@ -56,9 +56,9 @@ fn header() -> [u32; 20]
         1,
         1,
         scalar,
-        constant,
-        constant,
-        // the term's coefficient, of eight bytes
+        // the constant term, whose coefficient has eight bytes
+        no_symbol,
+        no_symbol,
         BOUND,
         0,
         // zeros up to the code
@@ -70,7 +70,8 @@ fn header() -> [u32; 20]
 
 /// Takes the frame, puts the literal into its slot, makes the slot the result, gives the frame back and returns.
 fn literal_code(value: u32) -> [Instr; 7]
-    ensures { map word_of result ≡ map word_of (instructions_of value) }
+    ensures size { length (bytes_of (map word_of result)) ≡ 28 }
+    ensures good { (m : Literal) → m.value ≡ value → Good m (image_with (bytes_of (map word_of result))) }
 {
     let scratch = Reg::T0;
     let slot = Imm12::from_bits(0);
@@ -78,13 +79,40 @@ fn literal_code(value: u32) -> [Instr; 7]
     let upper = Imm20::from_bits(value.wrapping_add(1 << 11) >> 12);
     let lower = Imm12::from_bits(value % (1 << 12));
     [
-        Instr::Addi { rd: Reg::SP, rs1: Reg::SP, imm: Imm12::from_bits((1 << 12) - FRAME) },
-        Instr::Lui { rd: scratch, imm: upper },
-        Instr::Addi { rd: scratch, rs1: scratch, imm: lower },
-        Instr::Sw { rs1: Reg::SP, rs2: scratch, imm: slot },
-        Instr::Lw { rd: Reg::A0, rs1: Reg::SP, imm: slot },
-        Instr::Addi { rd: Reg::SP, rs1: Reg::SP, imm: Imm12::from_bits(FRAME) },
-        Instr::Jalr { rd: Reg::ZERO, rs1: Reg::RA, imm: Imm12::from_bits(0) },
+        Instr::Addi {
+            rd: Reg::SP,
+            rs1: Reg::SP,
+            imm: Imm12::from_bits((1 << 12) - FRAME),
+        },
+        Instr::Lui {
+            rd: scratch,
+            imm: upper,
+        },
+        Instr::Addi {
+            rd: scratch,
+            rs1: scratch,
+            imm: lower,
+        },
+        Instr::Sw {
+            rs1: Reg::SP,
+            rs2: scratch,
+            imm: slot,
+        },
+        Instr::Lw {
+            rd: Reg::A0,
+            rs1: Reg::SP,
+            imm: slot,
+        },
+        Instr::Addi {
+            rd: Reg::SP,
+            rs1: Reg::SP,
+            imm: Imm12::from_bits(FRAME),
+        },
+        Instr::Jalr {
+            rd: Reg::ZERO,
+            rs1: Reg::RA,
+            imm: Imm12::from_bits(0),
+        },
     ]
 }
 
@@ -110,4 +138,81 @@ fn put_code(image: &mut Text, code: &[Instr]) -> Result<(), NoMemory>
         left = rest;
     }
     Ok(())
+}
+
+#[cfg(test)]
+mod tests {
+    use super::*;
+    use rup_base::Name;
+    use std::test::Fail;
+
+    fn model(alloc: Global, value: u32) -> Result<Option<LiteralModel>, NoMemory> {
+        let Some(name) = Name::read(alloc, b"answer")? else {
+            return Ok(None);
+        };
+        let Some(local) = Name::read(alloc, b"x")? else {
+            return Ok(None);
+        };
+        Ok(Some(LiteralModel { name, local, value }))
+    }
+
+    // The layout by hand, and each instruction by the formats of the RISC-V Unprivileged ISA manual.
+    const ZERO: [u32; 27] = [
+        0x3150_5552,
+        1,
+        108,
+        80,
+        28,
+        0,
+        80,
+        16,
+        0,
+        0,
+        1,
+        1,
+        0xffff_ffff,
+        0xffff_ffff,
+        0xffff_ffff,
+        53,
+        0,
+        0,
+        0,
+        0,
+        // addi sp, sp, -16; lui t0, 0; addi t0, t0, 0; sw t0, 0(sp); lw a0, 0(sp); addi sp, sp, 16; jalr x0, 0(ra)
+        0xff01_0113,
+        0x0000_02b7,
+        0x0002_8293,
+        0x0051_2023,
+        0x0001_2503,
+        0x0101_0113,
+        0x0000_8067,
+    ];
+
+    #[test]
+    fn the_image_of_zero(rt: HostRuntime) -> Result<(), Fail> {
+        let model = model(rt.alloc(), 0)?.ok_or("the names are names")?;
+        let image = literal_image(rt.alloc(), &model)?;
+        let mut wanted = Text::new(rt.alloc());
+        for number in ZERO {
+            wanted.extend_from_slice(&number.to_le_bytes())?;
+        }
+        assert_eq!(rt; image.as_slice(), wanted.as_slice());
+        Ok(())
+    }
+
+    #[test]
+    fn both_parts_of_a_literal(rt: HostRuntime) {
+        let rows = [
+            (0, 0x0000_02b7, 0x0002_8293),
+            (2_047, 0x0000_02b7, 0x7ff2_8293),
+            (2_048, 0x0000_12b7, 0x8002_8293),
+            (2_147_483_648, 0x8000_02b7, 0x0002_8293),
+            (4_294_967_295, 0x0000_02b7, 0xfff2_8293),
+        ];
+        for (value, upper, lower) in rows {
+            let code = literal_code(value);
+            assert_eq!(rt; encode(code[1]), upper, "lui of {value}");
+            assert_eq!(rt; encode(code[2]), lower, "addi of {value}");
+        }
+    }
 }

@@ -19,7 +19,7 @@ use Rattle.rup_top.proofs.Unique.{one_model, one_derivation, same_some}
 use Rattle.rup_top.proofs.Ways.{IsPlain, plain_comes, refusal_status}
 
 refused_not_zero : (r : Refusal) → status_of r ≡ 0 → ⊥
-refused_not_zero r e = elim (refusal_status r) [ | inl one ↦ omega (arith, one, e) | inr six ↦ omega (arith, six, e) ]
+refused_not_zero r e = elim (refusal_status r) [ inl one ↦ omega (arith, one, e) | inr six ↦ omega (arith, six, e) ]
 
 -- an outcome of status 0 is an image
 image_comes : (held : Told) (model tree : List ℕ) (a : Answer) (out : Sunk) → Comes held (script_of (replay model tree)) a → a.status ≡ 0 → Appends out.taken out.taken_now a.out
@@ -38,7 +38,7 @@ image_comes held model tree a out (bytes, holds, inl (fits, (tree_bytes, tree_ho
       tree_fits = tree_fits;
       image = image;
       accepted = judged;
-      out_takes = subst P (ap (λ x. x.out) is) takes
+      out_takes = subst P (ap (λ x. x.out) is) takes;
     }
 image_comes held model tree a out (bytes, holds, inl (fits, (tree_bytes, tree_holds, inl (tree_fits, (Err (fail.Refused r), judged, is))))) zero takes =
     absurd (refused_not_zero r (sym (ap (λ x. x.status) is) ∙ zero))
@@ -53,6 +53,7 @@ image_written model tree files out notes status (inr ended) zero = by_delivery e
     by_answer (inr fault) is takes =
         let third : ended.answer.status ≡ 3 = ap (λ x. x.status) fault.1 in
         absurd (omega (arith, third, is))
+
     by_delivery : Delivers ended.answer out notes status → WritesImage files.held model tree out
     by_delivery (inl whole) = by_answer ended.answers (sym whole.status_is ∙ zero) whole.out_takes
     by_delivery (inr (inl cut)) = absurd (omega (arith, cut.status_is, zero))
@@ -67,6 +68,7 @@ not_zero_usage files out notes status (inr ended) zero = by_delivery ended.deliv
         let second : ended.answer.status ≡ 2 = ap (λ x. x.status) comes in
         omega (arith, second, is)
     by_answer (inr fault) is = fault.0.reached
+
     by_delivery : Delivers ended.answer out notes status → ⊥
     by_delivery (inl whole) = by_answer ended.answers (sym whole.status_is ∙ zero)
     by_delivery (inr (inl cut)) = omega (arith, cut.status_is, zero)
@@ -133,6 +135,7 @@ all_written model tree files out notes status (inr ended) held told given undist
         let Q : Told → Type 0 = λ h. AcceptsFiles h model tree in
         comes_zero held model tree (subst Q told given) ended.answer (subst P told comes)
     by_answer (inr fault) = absurd (undisturbed.files_same fault.0.rose)
+
     by_delivery : Delivers ended.answer out notes status → (status ≡ 0) ⊎ (status ≡ 5)
     by_delivery (inl whole) = inl (whole.status_is ∙ by_answer ended.answers)
     by_delivery (inr (inl cut)) = absurd (undisturbed.out_same cut.rose)

@@ -23,13 +23,16 @@ pub then_next : (held : Told) (place : ℕ) (name : List ℕ) (limit : ℕ) (nex
 then_next held place name limit next before middle now last a bytes fetched (inl comes) = inl (bytes, fetched.holds, inl (fetched.fits, comes))
 then_next held place name limit next before middle now last a bytes fetched (inr (faulted, is)) =
     let P : ℕ → Type 0 = λ n. Rose n now in
-    inr (record {
-      place = faulted.place;
-      word = faulted.word;
-      reached = inr (bytes, fetched.holds, fetched.fits, faulted.reached);
-      rose = subst P fetched.same faulted.rose;
-      named = faulted.named
-    }, is)
+    inr (
+      record {
+        place = faulted.place;
+        word = faulted.word;
+        reached = inr (bytes, fetched.holds, fetched.fits, faulted.reached);
+        rose = subst P fetched.same faulted.rose;
+        named = faulted.named;
+      },
+      is,
+    )
 
 -- the same, where the files of the rest are those that the fetch left
 pub then_next_at : (held held_now : Told) (place : ℕ) (name : List ℕ) (limit : ℕ) (next : List ℕ → Script) (before middle now : ℕ) (last : Option (List ℕ)) (a : Answer) (bytes : List ℕ)

@@ -92,7 +92,7 @@ parts_of_spelling m is =
     let rest2 : List ℕ = codes " " ++ (decimal m.value ++ tail) in
     let rest1 : List ℕ = codes " (params) (require) (do (let " ++ (m.local ++ rest2) in
     stripped_word (codes "(model ") m.name rest1 name_all refl _
-      (λ w rest. option_and_then (λ b. option_map (λ c. (w, word b, word c)) (stripped (codes " ") (behind_word b))) (stripped (codes " (params) (require) (do (let ") rest))
+    (λ w rest. option_and_then (λ b. option_map (λ c. (w, word b, word c)) (stripped (codes " ") (behind_word b))) (stripped (codes " (params) (require) (do (let ") rest))
     ∙ stripped_word (codes " (params) (require) (do (let ") m.local rest2 local_all refl _ (λ w rest. option_map (λ c. (m.name, w, word c)) (stripped (codes " ") rest))
     ∙ ap (option_map (λ c. (m.name, m.local, word c))) (stripped_append (codes " ") (decimal m.value ++ tail))
     ∙ ap (λ w. Some (m.name, m.local, w)) (word_append (decimal m.value) tail value_all refl)
@@ -110,8 +110,8 @@ pub parts_are : (bytes name local number : List ℕ) → Some (name, local, numb
 parts_are bytes name local number is (Err e) given = given
 parts_are bytes name local number is (Ok read) given =
     λ m spells.
-      let same : ◌≡◌ {A = Option Parts} (Some (name, local, number)) (Some (m.name, m.local, decimal m.value)) = is ∙ (ap parts_of spells.bytes_are ∙ parts_of_spelling m spells.is_model) in
-      given m spells.is_model (ap (λ o. (parts_or o).0) same) (ap (λ o. (parts_or o).1) same) (ap (λ o. (parts_or o).2) same)
+    let same : ◌≡◌ {A = Option Parts} (Some (name, local, number)) (Some (m.name, m.local, decimal m.value)) = is ∙ (ap parts_of spells.bytes_are ∙ parts_of_spelling m spells.is_model) in
+    given m spells.is_model (ap (λ o. (parts_or o).0) same) (ap (λ o. (parts_or o).1) same) (ap (λ o. (parts_or o).2) same)
 
 pub no_parts : (bytes : List ℕ) (m : LiteralModel) → Spells bytes m → None ≡ parts_of bytes → ⊥
 no_parts bytes m spells none =

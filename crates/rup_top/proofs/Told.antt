@@ -30,7 +30,7 @@ module _ (script : Script) (files : Read) (out notes : Sunk) (o n : List ℕ) (s
     comes = comes;
     status_is = whole.status_is;
     out_is = appended out.taken out.taken_now o a.out out_told whole.out_takes;
-    notes_are = appended notes.taken notes.taken_now n a.note notes_told whole.notes_take
+    notes_are = appended notes.taken notes.taken_now n a.note notes_told whole.notes_take;
   })
   whole_way a (inr (fault, is)) whole =
       let out_now : out.taken_now ≡ Some (o ++ a.out) = appended out.taken out.taken_now o a.out out_told whole.out_takes in
@@ -39,43 +39,55 @@ module _ (script : Script) (files : Read) (out notes : Sunk) (o n : List ℕ) (s
         status_is = whole.status_is ∙ ap (λ x. x.status) is;
         faulted = fault;
         out_is = out_now ∙ ap (λ x. Some (o ++ x.out)) is ∙ ap Some (append_nothing o);
-        notes_are = notes_now ∙ ap (λ x. Some (n ++ x.note)) is
+        notes_are = notes_now ∙ ap (λ x. Some (n ++ x.note)) is;
       }))
 
   out_way : (a : Answer) → Answers files.held script files.before files.now files.last a → CutOut a out notes status → FourWays script files out notes o n status
-  out_way a (inl comes) cut = inr (inr (inl (cut.status_is, inl (record {
-    rose = cut.rose;
-    answer = a;
-    comes = comes;
-    taken = cut.out_takes.0;
-    out_is = appended out.taken out.taken_now o _ out_told cut.out_takes.1;
-    notes_are = kept notes.taken notes.taken_now n notes_told cut.notes_keep
-  }))))
-  out_way a (inr (fault, is)) cut = inr (inr (inl (cut.status_is, inr (inr (record {
-    rose = inl cut.rose;
-    faulted = fault;
-    taken = 0;
-    out_is = appended out.taken out.taken_now o _ out_told cut.out_takes.1 ∙ ap (λ x. Some (o ++ take cut.out_takes.0 x.out)) is
-      ∙ ap (λ bytes. Some (o ++ bytes)) (take_nothing cut.out_takes.0) ∙ ap Some (append_nothing o);
-    notes_are = kept notes.taken notes.taken_now n notes_told cut.notes_keep ∙ ap Some (sym (append_nothing n))
-  })))))
+  out_way a (inl comes) cut = inr (inr (inl (
+    cut.status_is,
+    inl (record {
+      rose = cut.rose;
+      answer = a;
+      comes = comes;
+      taken = cut.out_takes.0;
+      out_is = appended out.taken out.taken_now o _ out_told cut.out_takes.1;
+      notes_are = kept notes.taken notes.taken_now n notes_told cut.notes_keep;
+    }),
+  )))
+  out_way a (inr (fault, is)) cut = inr (inr (inl (
+    cut.status_is,
+    inr (inr (record {
+      rose = inl cut.rose;
+      faulted = fault;
+      taken = 0;
+      out_is = appended out.taken out.taken_now o _ out_told cut.out_takes.1 ∙ ap (λ x. Some (o ++ take cut.out_takes.0 x.out)) is
+          ∙ ap (λ bytes. Some (o ++ bytes)) (take_nothing cut.out_takes.0) ∙ ap Some (append_nothing o);
+      notes_are = kept notes.taken notes.taken_now n notes_told cut.notes_keep ∙ ap Some (sym (append_nothing n));
+    })),
+  )))
 
   notes_way : (a : Answer) → Answers files.held script files.before files.now files.last a → CutNotes a out notes status → FourWays script files out notes o n status
-  notes_way a (inl comes) cut = inr (inr (inl (cut.status_is, inr (inl (record {
-    rose = cut.rose;
-    answer = a;
-    comes = comes;
-    taken = cut.notes_take.0;
-    out_is = appended out.taken out.taken_now o a.out out_told cut.out_takes;
-    notes_are = appended notes.taken notes.taken_now n _ notes_told cut.notes_take.1
-  })))))
-  notes_way a (inr (fault, is)) cut = inr (inr (inl (cut.status_is, inr (inr (record {
-    rose = inr cut.rose;
-    faulted = fault;
-    taken = cut.notes_take.0;
-    out_is = appended out.taken out.taken_now o a.out out_told cut.out_takes ∙ ap (λ x. Some (o ++ x.out)) is ∙ ap Some (append_nothing o);
-    notes_are = appended notes.taken notes.taken_now n _ notes_told cut.notes_take.1 ∙ ap (λ x. Some (n ++ take cut.notes_take.0 x.note)) is
-  })))))
+  notes_way a (inl comes) cut = inr (inr (inl (
+    cut.status_is,
+    inr (inl (record {
+      rose = cut.rose;
+      answer = a;
+      comes = comes;
+      taken = cut.notes_take.0;
+      out_is = appended out.taken out.taken_now o a.out out_told cut.out_takes;
+      notes_are = appended notes.taken notes.taken_now n _ notes_told cut.notes_take.1;
+    })),
+  )))
+  notes_way a (inr (fault, is)) cut = inr (inr (inl (
+    cut.status_is,
+    inr (inr (record {
+      rose = inr cut.rose;
+      faulted = fault;
+      taken = cut.notes_take.0;
+      out_is = appended out.taken out.taken_now o a.out out_told cut.out_takes ∙ ap (λ x. Some (o ++ x.out)) is ∙ ap Some (append_nothing o);
+      notes_are = appended notes.taken notes.taken_now n _ notes_told cut.notes_take.1 ∙ ap (λ x. Some (n ++ take cut.notes_take.0 x.note)) is;
+    })),
+  )))
 
   by_delivery : (a : Answer) → Answers files.held script files.before files.now files.last a → Delivers a out notes status → FourWays script files out notes o n status
   by_delivery a answers (inl whole) = whole_way a answers whole
@@ -86,7 +98,7 @@ module _ (script : Script) (files : Read) (out notes : Sunk) (o n : List ℕ) (s
   four_ways (inl lack) = inr (inr (inr (record {
     status_is = lack.status_is;
     out_is = lack.out_same ∙ out_told;
-    notes_are = lack.notes_same ∙ notes_told
+    notes_are = lack.notes_same ∙ notes_told;
   })))
   four_ways (inr ended) = by_delivery ended.answer ended.answers ended.delivers
 

@@ -33,23 +33,23 @@ not_usage m t e = let bad : ◌≡◌ {A = ℕ} 0 1 = cc in absurd (omega (arith
 plain_refused : (m t : List ℕ) (r : Refusal) → IsPlain (replay m t) (refused r)
 plain_refused m t r = elim (refusal_status r) [
   | inl one ↦ record {
-      within = omega (arith, one);
-      no_fault = λ e. omega (arith, one, e);
-      no_cut = λ e. omega (arith, one, e);
-      no_lack = λ e. omega (arith, one, e);
-      usage_only = λ e. absurd (omega (arith, one, e));
-      is_usage = λ e. absurd (not_usage m t e);
-      keeps = λ _. refl
-    }
+    within = omega (arith, one);
+    no_fault = λ e. omega (arith, one, e);
+    no_cut = λ e. omega (arith, one, e);
+    no_lack = λ e. omega (arith, one, e);
+    usage_only = λ e. absurd (omega (arith, one, e));
+    is_usage = λ e. absurd (not_usage m t e);
+    keeps = λ _. refl;
+  }
   | inr six ↦ record {
-      within = omega (arith, six);
-      no_fault = λ e. omega (arith, six, e);
-      no_cut = λ e. omega (arith, six, e);
-      no_lack = λ e. omega (arith, six, e);
-      usage_only = λ e. absurd (omega (arith, six, e));
-      is_usage = λ e. absurd (not_usage m t e);
-      keeps = λ _. refl
-    }
+    within = omega (arith, six);
+    no_fault = λ e. omega (arith, six, e);
+    no_cut = λ e. omega (arith, six, e);
+    no_lack = λ e. omega (arith, six, e);
+    usage_only = λ e. absurd (omega (arith, six, e));
+    is_usage = λ e. absurd (not_usage m t e);
+    keeps = λ _. refl;
+  }
 ]
 
 plain_image : (m t image : List ℕ) → IsPlain (replay m t) (image_answer image)
@@ -60,7 +60,7 @@ plain_image m t image = record {
   no_lack = λ e. omega (arith, e);
   usage_only = λ e. absurd (omega (arith, e));
   is_usage = λ e. absurd (not_usage m t e);
-  keeps = λ e. absurd (e refl)
+  keeps = λ e. absurd (e refl);
 }
 
 plain_usage : IsPlain usage usage_answer
@@ -71,7 +71,7 @@ plain_usage = record {
   no_lack = λ e. omega (arith, e);
   usage_only = λ _. refl;
   is_usage = λ _. refl;
-  keeps = λ _. refl
+  keeps = λ _. refl;
 }
 
 plain_reply : (m t : List ℕ) (result : Result (List ℕ) Fail) (a : Answer) → Replies result a → IsPlain (replay m t) a
@@ -99,6 +99,7 @@ two c files out notes status (inr ended) e = by_delivery ended.delivers
     by_answer (inr fault) is =
         let three : ended.answer.status ≡ 3 = ap (λ x. x.status) fault.1 in
         absurd (omega (arith, three, is))
+
     by_delivery : Delivers ended.answer out notes status → c ≡ usage
     by_delivery (inl whole) = by_answer ended.answers (sym whole.status_is ∙ e)
     by_delivery (inr (inl cut)) = absurd (omega (arith, cut.status_is, e))
@@ -113,9 +114,11 @@ on_usage c files out notes status (inr ended) e = by_delivery ended.delivers
     no_fault : (d : Command) → d ≡ usage → Faulted files.held (script_of d) files.before files.now files.last → ⊥
     no_fault usage d fault = fault.reached
     no_fault (replay m t) d fault = not_usage m t d
+
     by_answer : Answers files.held (script_of c) files.before files.now files.last ended.answer → ended.answer.status ≡ 2
     by_answer (inl comes) = (plain_comes files.held c ended.answer comes).is_usage e
     by_answer (inr fault) = absurd (no_fault c e fault.0)
+
     by_delivery : Delivers ended.answer out notes status → (status ≡ 2) ⊎ (((status ≡ 4) × (Rose out.before out.now ⊎ Rose notes.before notes.now)) ⊎ (status ≡ 5))
     by_delivery (inl whole) = inl (whole.status_is ∙ by_answer ended.answers)
     by_delivery (inr (inl cut)) = inr (inl (cut.status_is, inl cut.rose))
@@ -130,6 +133,7 @@ three c files out notes status (inr ended) e = by_delivery ended.delivers
     by_answer : Answers files.held (script_of c) files.before files.now files.last ended.answer → ended.answer.status ≡ 3 → Faulted files.held (script_of c) files.before files.now files.last
     by_answer (inl comes) is = absurd ((plain_comes files.held c ended.answer comes).no_fault is)
     by_answer (inr fault) is = fault.0
+
     by_delivery : Delivers ended.answer out notes status → Faulted files.held (script_of c) files.before files.now files.last
     by_delivery (inl whole) = by_answer ended.answers (sym whole.status_is ∙ e)
     by_delivery (inr (inl cut)) = absurd (omega (arith, cut.status_is, e))
@@ -146,6 +150,7 @@ four c files out notes status (inr ended) e = by_delivery ended.delivers
     by_answer (inr fault) is =
         let third : ended.answer.status ≡ 3 = ap (λ x. x.status) fault.1 in
         omega (arith, third, is)
+
     by_delivery : Delivers ended.answer out notes status → Rose out.before out.now ⊎ Rose notes.before notes.now
     by_delivery (inl whole) = absurd (by_answer ended.answers (sym whole.status_is ∙ e))
     by_delivery (inr (inl cut)) = inl cut.rose
@@ -162,6 +167,7 @@ five c files out notes status (inr ended) e = by_delivery ended.delivers
     by_answer (inr fault) is =
         let third : ended.answer.status ≡ 3 = ap (λ x. x.status) fault.1 in
         omega (arith, third, is)
+
     by_delivery : Delivers ended.answer out notes status → (out.taken_now ≡ out.taken) × (notes.taken_now ≡ notes.taken)
     by_delivery (inl whole) = absurd (by_answer ended.answers (sym whole.status_is ∙ e))
     by_delivery (inr (inl cut)) = absurd (omega (arith, cut.status_is, e))
@@ -177,6 +183,7 @@ at_most c files out notes status (inr ended) = by_delivery ended.delivers
     by_answer (inr fault) =
         let third : ended.answer.status ≡ 3 = ap (λ x. x.status) fault.1 in
         omega (arith, third)
+
     by_delivery : Delivers ended.answer out notes status → status ≤ 7
     by_delivery (inl whole) =
         let answer : ended.answer.status ≤ 7 = by_answer ended.answers in
@@ -208,6 +215,7 @@ unchanged c files out notes status (inr ended) zero four = by_delivery ended.del
     by_answer : Answers files.held (script_of c) files.before files.now files.last ended.answer → ended.answer.status ≢ 0 → ended.answer.out ≡ []
     by_answer (inl comes) other = (plain_comes files.held c ended.answer comes).keeps other
     by_answer (inr fault) other = ap (λ x. x.out) fault.1
+
     by_delivery : Delivers ended.answer out notes status → Keeps out.taken out.taken_now
     by_delivery (inl whole) = keeps_nothing out.taken out.taken_now ended.answer.out (by_answer ended.answers (λ e. zero (whole.status_is ∙ e))) whole.out_takes
     by_delivery (inr (inl cut)) = absurd (four cut.status_is)

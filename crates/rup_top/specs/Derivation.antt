@@ -53,7 +53,6 @@ if_list (Some ds) = is_empty ds
 abbrev pub is_empty_list : Data → Bool
 is_empty_list d = if_list (as_array d)
 
-
 abbrev pub node_of_parts : Data × Data × Data → Option Node
 node_of_parts parts =
     option_and_then (λ rule. option_and_then (λ args. only_if (is_empty_list parts.2) (record { rule = rule; args = args }))
@@ -95,9 +94,9 @@ model_of d = option_and_then name_of (as_str d)
 abbrev pub derivation_of_parts : Data → Data → Data → Data → Option Derivation
 derivation_of_parts block version model nodes =
     option_and_then (λ count.
-      if is_version (option_and_then as_u64 (as_number version))
-      then option_and_then (λ name. option_and_then (λ list. derivation_of_list count name list) (option_and_then nodes_of (as_array nodes))) (model_of model)
-      else None)
+    if is_version (option_and_then as_u64 (as_number version))
+    then option_and_then (λ name. option_and_then (λ list. derivation_of_list count name list) (option_and_then nodes_of (as_array nodes))) (model_of model)
+    else None)
     (block_of block)
 
 abbrev pub are_four : Option Members → Bool

@@ -62,7 +62,13 @@ fn has_four_members(value: &Value) -> bool
     }
 }
 
-fn derivation_of_parts(alloc: Global, block: &Value, version: &Value, model: &Value, nodes: &Value) -> Result<Option<Derivation>, NoMemory>
+fn derivation_of_parts(
+    alloc: Global,
+    block: &Value,
+    version: &Value,
+    model: &Value,
+    nodes: &Value,
+) -> Result<Option<Derivation>, NoMemory>
     ensures { IfOk result (λ read. read ≡ spec.derivation_of_parts (view block.now) (view version.now) (view model.now) (view nodes.now)) }
 {
     let Some(count) = block_of(block) else {

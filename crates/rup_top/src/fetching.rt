@@ -9,7 +9,13 @@ use rup_io::{FetchFault, Files};
 use std::alloc::Global;
 
 /// The bytes of the file that the word at this place names, else the answer with which the command ends.
-pub fn fetch_word<F: Files>(alloc: Global, place: u32, name: &str, limit: u32, files: &mut F) -> Result<Text, Stop>
+pub fn fetch_word<F: Files>(
+    alloc: Global,
+    place: u32,
+    name: &str,
+    limit: u32,
+    files: &mut F,
+) -> Result<Text, Stop>
     ensures held { F.held files.new ≡ F.held files.old }
     ensures ok { IfOk result (λ bytes. spec.Fetched (F.held files.old) name.now limit bytes (F.faults files.old) (F.faults files.new)) }
     ensures err { IfErr result (λ stop. spec.Stops stop (λ a. (next : List ℕ → spec.Script)

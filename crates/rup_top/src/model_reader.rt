@@ -57,7 +57,12 @@ fn candidate(alloc: Global, bytes: &[u8]) -> Result<Option<LiteralModel>, NoMemo
     }
 }
 
-fn model_of_parts(alloc: Global, name: &[u8], local: &[u8], number: &[u8]) -> Result<Option<LiteralModel>, NoMemory>
+fn model_of_parts(
+    alloc: Global,
+    name: &[u8],
+    local: &[u8],
+    number: &[u8],
+) -> Result<Option<LiteralModel>, NoMemory>
     ensures is_model { IfOk result (λ read. IfSome read IsModel) }
     ensures only { IfOk result (λ read. (m : Read) → IsModel m → name.now ≡ m.name → local.now ≡ m.local → number.now ≡ decimal m.value → read ≡ Some m) }
 {

@@ -77,12 +77,22 @@ fn node_of(alloc: Global, value: &Value) -> Result<Option<Node>, NoMemory>
         return Ok(None);
     };
     match parts_of(items.as_slice()) {
-        Some((rule, arguments, certificates)) => node_of_parts(alloc, rule, arguments, certificates),
+        Some((rule, arguments, certificates)) => node_of_parts(
+            alloc,
+            rule,
+            arguments,
+            certificates,
+        ),
         None => Ok(None),
     }
 }
 
-fn node_of_parts(alloc: Global, rule: &Value, arguments: &Value, certificates: &Value) -> Result<Option<Node>, NoMemory>
+fn node_of_parts(
+    alloc: Global,
+    rule: &Value,
+    arguments: &Value,
+    certificates: &Value,
+) -> Result<Option<Node>, NoMemory>
     ensures { IfOk result (λ read. read ≡ spec.node_of_parts (view rule.now, view arguments.now, view certificates.now)) }
 {
     let Some(rule) = rule.as_str().and_then(rule_of) else {

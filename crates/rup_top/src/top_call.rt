@@ -22,7 +22,13 @@ pub struct Status(pub u8);
 ///
 /// The status is 0 where the command is done, 1 where its input is refused, 2 where the words fit no row of the
 /// command table, 3 where a fetch failed, 4 where a write failed, and 5 where memory ran out before the first write.
-pub fn top<F: Files, O: Sink, N: Sink>(alloc: Global, words: &[String], files: &mut F, out: &mut O, notes: &mut N) -> Status
+pub fn top<F: Files, O: Sink, N: Sink>(
+    alloc: Global,
+    words: &[String],
+    files: &mut F,
+    out: &mut O,
+    notes: &mut N,
+) -> Status
     ensures held { F.held files.new ≡ F.held files.old }
 
     // Usage: status 2 comes exactly where the words fit no row of the command table; a failed write or want of memory
@@ -61,7 +67,13 @@ pub fn top<F: Files, O: Sink, N: Sink>(alloc: Global, words: &[String], files: &
     run(alloc, words, files, out, notes)
 }
 
-fn run<F: Files, O: Sink, N: Sink>(alloc: Global, words: &[String], files: &mut F, out: &mut O, notes: &mut N) -> Status
+fn run<F: Files, O: Sink, N: Sink>(
+    alloc: Global,
+    words: &[String],
+    files: &mut F,
+    out: &mut O,
+    notes: &mut N,
+) -> Status
     ensures held { F.held files.new ≡ F.held files.old }
     ensures no_fetch { spec.command_of (map string_bytes words.now) ≡ spec.usage → files.new ≡ files.old }
     ensures ends { Ends (spec.script_of (spec.command_of (map string_bytes words.now)))

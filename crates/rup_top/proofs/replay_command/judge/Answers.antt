@@ -12,5 +12,5 @@ returns c =
       d = c.in_ok-derivation.derivation;
       file = c.in_ok-derivation.ensures;
       is_instance = is;
-      written = c.in_ok-literal_image-in-None.ensures c.in_ok-derivation.derivation is
+      written = c.in_ok-literal_image-in-None.ensures c.in_ok-derivation.derivation is;
     }

@@ -11,5 +11,5 @@ pub returns-in-Err-fetch_word-clause-gives : goal.returns-in-Err-fetch_word-clau
 returns-in-Err-fetch_word-clause-gives g c =
     stops_with _ _ c.in-Err-fetch_word.stop
     (λ a p. then_next_at _ _ _ _ _ (λ m. asks 2 c.args.tree.now tree_limit (λ t. comes_to (judges m t))) _ _ _ _ a _ c.fetch_word.ensures.held c.in-Ok.ensures.ok
-      (p (λ t. comes_to (judges c.in-Ok.bytes t))))
+    (p (λ t. comes_to (judges c.in-Ok.bytes t))))
     c.in-Err-fetch_word.ensures.err

@@ -95,14 +95,10 @@ impl Files for MemFiles {
 fn find<'a>(files: &'a [(Text, Text)], name: &str) -> Option<&'a Text>
     ensures { option_copied result ≡ file_of files.now name.now }
 {
-    let mut left = files;
-    while let [(held, bytes), rest @ ..] = left {
-        if held.as_slice() == name.as_bytes() {
-            return Some(bytes);
-        }
-        left = rest;
-    }
-    None
+    files
+        .iter()
+        .find(|(held, _)| held.as_slice() == name.as_bytes())
+        .map(|(_, bytes)| bytes)
 }
 
 /// A copy of a file that is within the limit.

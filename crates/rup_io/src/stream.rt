@@ -16,23 +16,27 @@ pub struct StdSink<W> {
 
 impl<W> Model for StdSink<W> {
     ghost use Rattle.std.specs.Prelude.{ℕ};
+    ghost use Rattle.std.specs.Coded.{coded×, coded_ℕ};
 
-    ghost Value = { ℕ };
+    // the writer, and how many writes failed
+    ghost Value = { W × ℕ };
 
-    ghost view = { λ s. s.faults };
+    ghost coded = { coded× W.code coded_ℕ };
+
+    ghost view = { λ s. (s.writer, s.faults) };
 }
 
 impl<W: Write + Drop> StdSink<W> {
     /// A sink whose bytes go to this writer.
     pub fn new(writer: W) -> StdSink<W>
-        ensures { result ≡ 0 }
+        ensures { result ≡ (writer, 0) }
     {
         StdSink { writer, faults: 0 }
     }
 
     /// How many writes failed.
     pub fn faults(&self) -> u64
-        ensures { result ≡ self.now }
+        ensures { result ≡ self.now.1 }
     {
         self.faults
     }
@@ -41,12 +45,13 @@ impl<W: Write + Drop> StdSink<W> {
 impl<W: Write + Drop> Sink for StdSink<W> {
     ghost taken = { λ _. None };
 
-    ghost faults = { λ faults. faults };
+    ghost faults = { λ s. s.1 };
 
     fn write(&mut self, bytes: &[u8]) -> Result<(), SinkFailed>
-        ensures cause { HasCause self.old self.new result }
+        ensures cause { HasCause self.old.1 self.new.1 result }
         ensures takes { Takes None None bytes.now result }
-        ensures after { self.new ≡ (if is_ok result then self.old else raised self.old) }
+        ensures hands_on { Takes (W.contents self.old.0) (W.contents self.new.0) bytes.now result }
+        ensures after { self.new.1 ≡ (if is_ok result then self.old.1 else raised self.old.1) }
     {
         let answer = write_whole(&mut self.writer, bytes);
         if answer.is_err() {

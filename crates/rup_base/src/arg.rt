@@ -18,7 +18,7 @@ pub enum Kind {
     Words(Option<u32>),
 }
 
-/// An argument or a result. A byte is passed as the word of the same number.
+/// An argument or a result. A byte or a flag is the word of its number.
 #[derive(Debug, Drop)]
 pub enum Arg {
     Word(u32),

@@ -22,3 +22,6 @@ pub use no_memory::NoMemory;
 pub use refusal::{ArgFault, Goal, Limit, Refusal, TextWhy, TypePlace, TypeWhy};
 pub use text::Text;
 pub use word::{high_product, signed_less};
+
+#[cfg(test)]
+mod tests;

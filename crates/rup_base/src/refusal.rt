@@ -45,27 +45,27 @@ pub enum TypePlace {
 /// Why a model is ill typed.
 #[derive(Clone, Copy, Debug, PartialEq, Eq)]
 pub enum TypeWhy {
-    /// A name stands twice where names are distinct.
+    /// A parameter, a length name, a listed name or a returned parameter stands twice, or a loop's own name is listed.
     Repeated,
-    /// The parameters take more than eight argument registers.
+    /// A parameter takes the ninth argument register.
     Registers,
     /// A name is not in scope.
     Unknown,
-    /// A name is not one of a scalar.
+    /// An array stands where a scalar is wanted.
     NotScalar,
-    /// A name is not one of an array.
+    /// A scalar stands where an array is wanted.
     NotArray,
-    /// An expression or a name has another type than its place asks for.
+    /// An expression, or a scalar in it, has another scalar type than is wanted.
     WrongType,
-    /// A name that is to be bound is one of an array, or is in use.
+    /// A scalar would take the name of an array in scope, or a moved array a name in scope.
     NameTaken,
-    /// A listed name is not carried out of a block with one type.
+    /// A listed name is not in scope at the end of a block, or has another type there.
     Uncarried,
-    /// A linear form passes the limits on names or numbers.
+    /// A side of a requirement, or a part of it, passes the limits of linear forms, or there are too many requirements.
     WideForm,
-    /// There are more than two scalar results.
+    /// There is a third scalar result.
     Results,
-    /// The array of a result is not the parameter's.
+    /// A returned array has not the type of its parameter.
     Owner,
 }
 
@@ -246,8 +246,8 @@ impl fmt::Display for TypeWhy {
             TypeWhy::NameTaken => write!(f, "a name is taken"),
             TypeWhy::Uncarried => write!(f, "a listed name is not carried over"),
             TypeWhy::WideForm => write!(f, "a linear form is too wide"),
-            TypeWhy::Results => write!(f, "more than two results are scalars"),
-            TypeWhy::Owner => write!(f, "an array is not its parameter's"),
+            TypeWhy::Results => write!(f, "there is a third scalar result"),
+            TypeWhy::Owner => write!(f, "a returned array has not its parameter's type"),
         }
     }
 }

@@ -1,13 +1,12 @@
 -- What a fetch gives, and what each of its answers is due to.
-use Rattle.std.specs.Prelude.{◌≡◌, ℕ, ◌<◌, ◌≤◌, List, [], ◌∷◌, Option, Some, None, Result, Ok, Err, ⊤, bytes_eq, if◌then◌else◌, length}
+use Rattle.std.specs.Prelude.{◌≡◌, ℕ, ◌<◌, ◌≤◌, List, Option, Some, None, Result, Ok, Err, ⊤, bytes_eq, find, option_map, length}
 use Rattle.rup_io.specs.declared.fetch.FetchFault.{FetchFault}
 use Rattle.rup_io.specs.declared.fetch.FetchFault.TheVariants.{Failed, TooLong, NoMemory}
 use Rattle.rup_io.specs.Count.{Rose}
 
 -- the bytes of the first file with this name
 abbrev pub file_of : List (List ℕ × List ℕ) → List ℕ → Option (List ℕ)
-file_of [] name = None
-file_of (pair ∷ pairs) name = if bytes_eq pair.0 name then Some pair.1 else file_of pairs name
+file_of files name = option_map (λ pair. pair.1) (find (λ pair. bytes_eq pair.0 name) files)
 
 -- the file with this name has these bytes, where the files are told
 abbrev pub Holds : Option (List (List ℕ × List ℕ)) → List ℕ → List ℕ → Type 0

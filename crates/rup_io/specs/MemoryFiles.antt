@@ -24,11 +24,11 @@ abbrev pub fetched : MemoryFiles → List ℕ → ℕ → Result (List ℕ) Fetc
 fetched m name limit = answer_of (is_to_fail m.fails m.calls) (file_of m.files name) limit
 
 -- the answer is this one, unless memory ran out
-abbrev pub Answers : Result (List ℕ) FetchFault → Result (List ℕ) FetchFault → Type 0
-Answers (Ok bytes) wanted = wanted ≡ Ok bytes
-Answers (Err Failed) wanted = wanted ≡ Err Failed
-Answers (Err TooLong) wanted = wanted ≡ Err TooLong
-Answers (Err NoMemory) wanted = ⊤
+abbrev pub IsAnswer : Result (List ℕ) FetchFault → Result (List ℕ) FetchFault → Type 0
+IsAnswer (Ok bytes) wanted = wanted ≡ Ok bytes
+IsAnswer (Err Failed) wanted = wanted ≡ Err Failed
+IsAnswer (Err TooLong) wanted = wanted ≡ Err TooLong
+IsAnswer (Err NoMemory) wanted = ⊤
 
 -- the files after a fetch of this name with this answer
 abbrev pub after_fetch : MemoryFiles → List ℕ → Result (List ℕ) FetchFault → MemoryFiles

@@ -65,7 +65,8 @@ impl<R: SystemFiles> Files for DiskFiles<'_, R> {
     ghost last = { λ d. d.last };
 
     fn fetch(&mut self, alloc: Global, name: &str, limit: u32) -> Result<Text, FetchFault>
-        ensures cause { FetchCause self.old.faults self.new.faults self.old.last self.new.last name.now result }
+        ensures cause { FetchCause self.old.faults self.new.faults self.old.last self.new.last
+            name.now result }
         ensures gives { FetchGives None name.now limit result }
         ensures after { self.new ≡ after_fetch self.old name.now result }
     {

@@ -41,6 +41,7 @@ pub trait Files {
     /// The bytes of the file with this name, of which there may be at most `limit`.
     fn fetch(&mut self, alloc: Global, name: &str, limit: u32) -> Result<Text, FetchFault>
         ensures held { held self.new ≡ held self.old }
-        ensures cause { FetchCause (faults self.old) (faults self.new) (last self.old) (last self.new) name.now result }
+        ensures cause { FetchCause (faults self.old) (faults self.new) (last self.old) (last self.new)
+            name.now result }
         ensures gives { FetchGives (held self.old) name.now limit result };
 }

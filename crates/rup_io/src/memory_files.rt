@@ -1,7 +1,7 @@
 //! Files in memory, of which each answer is known: for tests, and for callers that hold their files.
 ghost use Rattle.std.specs.Prelude.{◌≡◌, false, Some, None, option_copied};
 ghost use Rattle.rup_io.specs.Files.{file_of, FetchCause, FetchGives};
-ghost use Rattle.rup_io.specs.MemoryFiles.{fetched, Answers, after_fetch, answer_of};
+ghost use Rattle.rup_io.specs.MemoryFiles.{fetched, IsAnswer, after_fetch, answer_of};
 
 use crate::calls::is_listed;
 use crate::fetch::{FetchFault, Files};
@@ -24,11 +24,19 @@ impl Model for MemFiles {
 
     ghost Value = { MemoryFiles };
 
-    ghost view = { λ m. record { files = m.files; fails = m.fails; calls = m.calls; faults = m.faults; last = m.last } };
+    ghost view = { λ m. record {
+      files = m.files;
+      fails = m.fails;
+      calls = m.calls;
+      faults = m.faults;
+      last = m.last;
+    } };
 }
 
 impl MemFiles {
-    /// Of two pairs with one name the first counts. The calls whose numbers, from 0, stand in `fails` fail.
+    /// Of two pairs with one name the first counts. The calls whose numbers, from 0, stand in
+    /// `fails` fail, and so does a call for a name that is not held. A call that is to fail answers
+    /// `NoMemory` where its name can't be copied.
     pub fn new(files: List<(Text, Text)>, fails: List<u32>) -> MemFiles
         ensures { result ≡ record { files = files; fails = fails; calls = 0; faults = 0; last = None } }
     {
@@ -72,9 +80,12 @@ impl Files for MemFiles {
 
     fn fetch(&mut self, alloc: Global, name: &str, limit: u32) -> Result<Text, FetchFault>
         ensures held { Some self.new.files ≡ Some self.old.files }
-        ensures cause { FetchCause self.old.faults self.new.faults self.old.last self.new.last name.now result }
+        ensures cause { FetchCause self.old.faults self.new.faults self.old.last self.new.last
+            name.now result }
         ensures gives { FetchGives (Some self.old.files) name.now limit result }
-        ensures answer { Answers result (fetched self.old name.now limit) }
+
+        // each answer but want of memory, and the numbers of the calls, of which `fails` speaks
+        ensures answer { IsAnswer result (fetched self.old name.now limit) }
         ensures after { self.new ≡ after_fetch self.old name.now result }
     {
         let is_to_fail = is_listed(self.fails.as_slice(), self.calls);
@@ -95,19 +106,15 @@ impl Files for MemFiles {
 fn find<'a>(files: &'a [(Text, Text)], name: &str) -> Option<&'a Text>
     ensures { option_copied result ≡ file_of files.now name.now }
 {
-    let mut left = files;
-    while let [(held, bytes), rest @ ..] = left {
-        if held.as_slice() == name.as_bytes() {
-            return Some(bytes);
-        }
-        left = rest;
-    }
-    None
+    files
+        .iter()
+        .find(|(held, _)| held.as_slice() == name.as_bytes())
+        .map(|(_, bytes)| bytes)
 }
 
 /// A copy of a file that is within the limit.
 fn copy_within(alloc: Global, bytes: &[u8], limit: u32) -> Result<Text, FetchFault>
-    ensures { Answers result (answer_of false (Some bytes.now) limit) }
+    ensures { IsAnswer result (answer_of false (Some bytes.now) limit) }
 {
     if bytes.len() > limit as usize {
         return Err(FetchFault::TooLong);

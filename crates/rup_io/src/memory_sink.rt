@@ -9,7 +9,8 @@ use rup_base::{List, NoMemory};
 use std::alloc::Global;
 use std::marker::Model;
 
-/// The bytes taken so far, with room for a fixed number of them, and the numbers of the calls that are to fail.
+/// The bytes taken so far, with room for a fixed number of them, and the numbers of the calls that
+/// are to fail.
 #[derive(Debug, Drop)]
 pub struct MemSink {
     capacity: u32,
@@ -25,7 +26,13 @@ impl Model for MemSink {
 
     ghost Value = { MemorySink };
 
-    ghost view = { λ m. record { capacity = m.capacity; fails = m.fails; calls = m.calls; faults = m.faults; taken = m.taken.items } };
+    ghost view = { λ m. record {
+      capacity = m.capacity;
+      fails = m.fails;
+      calls = m.calls;
+      faults = m.faults;
+      taken = m.taken.items;
+    } };
 
     ghost invariant = { λ m. (vec_len m.taken ≤ m.capacity) × (m.capacity ≤ vec_capacity m.taken) };
 }
@@ -34,7 +41,13 @@ impl MemSink {
     /// A sink with room for `capacity` bytes, which is reserved at once. The calls whose numbers, from 0,
     /// stand in `fails` fail.
     pub fn new(alloc: Global, capacity: u32, fails: List<u32>) -> Result<MemSink, NoMemory>
-        ensures { IfOk result (λ sink. sink ≡ record { capacity = capacity; fails = fails; calls = 0; faults = 0; taken = [] }) }
+        ensures { IfOk result (λ sink. sink ≡ record {
+          capacity = capacity;
+          fails = fails;
+          calls = 0;
+          faults = 0;
+          taken = [];
+        }) }
     {
         let taken = Vec::with_capacity(alloc, capacity as usize)?;
         Ok(MemSink {
@@ -76,6 +89,8 @@ impl Sink for MemSink {
     fn write(&mut self, bytes: &[u8]) -> Result<(), SinkFailed>
         ensures cause { HasCause self.old.faults self.new.faults result }
         ensures takes { Takes (Some self.old.taken) (Some self.new.taken) bytes.now result }
+
+        // a write that fits and is not to fail succeeds; one that does not fit takes what fits
         ensures answer { is_ok result ≡ succeeds self.old bytes.now }
         ensures after { self.new ≡ after_write self.old bytes.now }
     {

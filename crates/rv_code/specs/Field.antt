@@ -8,6 +8,7 @@ use Rattle.rv_code.specs.declared.fields.Imm13.{Imm13}
 use Rattle.rv_code.specs.declared.fields.Imm20.{Imm20}
 use Rattle.rv_code.specs.declared.fields.Imm21.{Imm21}
 use Rattle.rv_code.specs.declared.fields.Shamt.{Shamt}
+use Rattle.rv_code.specs.declared.fields.Bits12.{Bits12}
 
 -- the register x0 to x31 of a number, by its low five bits
 abbrev pub reg : ℕ → Reg
@@ -32,3 +33,7 @@ imm21 half = record { half = half % 1048576; ok = mod_below half 1048576 (lit< t
 -- the shift amount of the low five bits of a number
 abbrev pub shamt : ℕ → Shamt
 shamt n = record { bits = n % 32; ok = mod_below n 32 (lit< tt) }
+
+-- the upper bits of FENCE of the low twelve bits of a number
+abbrev pub bits12 : ℕ → Bits12
+bits12 n = record { bits = n % 4096; ok = mod_below n 4096 (lit< tt) }

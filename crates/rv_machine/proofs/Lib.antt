@@ -2,3 +2,7 @@ pub mod Memory
 pub mod Registers
 pub mod Rows
 pub mod Runs
+pub mod Table
+pub mod Reached
+pub mod Steps
+pub mod Stores

@@ -17,36 +17,37 @@ source1 s w = register s.regs (rs1 w)
 abbrev pub source2 : State → ℕ → ℕ
 source2 s w = register s.regs (rs2 w)
 
--- the word's destination gets a value, and the next instruction follows
+-- a register gets a value, and the next instruction follows
 unfoldable pub gives : State → ℕ → ℕ → Answer
-gives s w value = Ok (record { regs = with_register s.regs (rd w) value; pc = plus s.pc 4; mem = s.mem })
+gives s r value = Ok (record { regs = with_register s.regs r value; pc = plus s.pc 4; mem = s.mem })
 
 unfoldable pub goes_on : State → Answer
 goes_on s = Ok (record { regs = s.regs; pc = plus s.pc 4; mem = s.mem })
 
 abbrev pub gives_if : State → ℕ → Option ℕ → Answer
-gives_if s w None = Err Illegal
-gives_if s w (Some value) = gives s w value
+gives_if s r None = Err Illegal
+gives_if s r (Some value) = gives s r value
 
 -- LUI, AUIPC
 abbrev pub load_upper : State → ℕ → Answer
-load_upper s w = gives s w (immediate_u w)
+load_upper s w = gives s (rd w) (immediate_u w)
 
 abbrev pub add_upper : State → ℕ → Answer
-add_upper s w = gives s w (plus s.pc (immediate_u w))
+add_upper s w = gives s (rd w) (plus s.pc (immediate_u w))
 
--- JAL, JALR: the destination gets the place behind the jump
+-- a jump: a register gets the place behind it
 unfoldable pub jumps : State → ℕ → ℕ → Answer
-jumps s w target =
-    if target % 4 == 0 then Ok (record { regs = with_register s.regs (rd w) (plus s.pc 4); pc = target; mem = s.mem })
+jumps s r target =
+    if target % 4 == 0 then Ok (record { regs = with_register s.regs r (plus s.pc 4); pc = target; mem = s.mem })
     else Err JumpMisaligned
 
+-- JAL, JALR
 abbrev pub jump : State → ℕ → Answer
-jump s w = jumps s w (plus s.pc (immediate_j w))
+jump s w = jumps s (rd w) (plus s.pc (immediate_j w))
 
 -- the sum with its bit 0 cleared
 abbrev pub jump_register : State → ℕ → Answer
-jump_register s w = if funct3 w == 0 then jumps s w (plus (source1 s w) (immediate_i w) / 2 * 2) else Err Illegal
+jump_register s w = if funct3 w == 0 then jumps s (rd w) (plus (source1 s w) (immediate_i w) / 2 * 2) else Err Illegal
 
 -- BEQ, BNE, none, none, BLT, BGE, BLTU, BGEU by funct3: whether the branch is taken
 abbrev pub taken : ℕ → ℕ → ℕ → Option Bool
@@ -59,33 +60,40 @@ taken f3 a b =
     else if f3 == 7 then Some (not (nat_lt a b))
     else None
 
-unfoldable pub branches : State → ℕ → Option Bool → Answer
-branches s w None = Err Illegal
-branches s w (Some is_taken) =
-    if is_taken
-    then (if plus s.pc (immediate_b w) % 4 == 0 then Ok (record { regs = s.regs; pc = plus s.pc (immediate_b w); mem = s.mem }) else Err JumpMisaligned)
+-- a branch to a target, if it is taken
+unfoldable pub branches : State → ℕ → Bool → Answer
+branches s target is_taken =
+    if is_taken then (if target % 4 == 0 then Ok (record { regs = s.regs; pc = target; mem = s.mem }) else Err JumpMisaligned)
     else goes_on s
 
+abbrev pub branches_if : State → ℕ → Option Bool → Answer
+branches_if s target None = Err Illegal
+branches_if s target (Some is_taken) = branches s target is_taken
+
 abbrev pub branch : State → ℕ → Answer
-branch s w = branches s w (taken (funct3 w) (source1 s w) (source2 s w))
+branch s w = branches_if s (plus s.pc (immediate_b w)) (taken (funct3 w) (source1 s w) (source2 s w))
 
-abbrev pub gives_loaded : State → ℕ → (ℕ → ℕ) → Option ℕ → Answer
-gives_loaded s w shown None = Err LoadOutside
-gives_loaded s w shown (Some n) = gives s w (shown n)
+abbrev pub inside : Option ℕ → Result ℕ Cause
+inside None = Err LoadOutside
+inside (Some n) = Ok n
 
--- a load of so many bytes, whose number is shown as a word
-unfoldable pub loads : State → ℕ → ℕ → (ℕ → ℕ) → ℕ → Answer
-loads s w size shown address =
-    if address % size == 0 then gives_loaded s w shown (number_at s.mem size address) else Err LoadMisaligned
+-- the number of so many bytes at an address, or why it can't be loaded
+unfoldable pub loaded : State → ℕ → ℕ → Result ℕ Cause
+loaded s size address = if address % size == 0 then inside (number_at s.mem size address) else Err LoadMisaligned
+
+-- a register gets what was loaded, shown as a word
+abbrev pub loads : State → ℕ → (ℕ → ℕ) → Result ℕ Cause → Answer
+loads s r shown (Ok n) = gives s r (shown n)
+loads s r shown (Err cause) = Err cause
 
 -- LB, LH, LW, none, LBU, LHU by funct3
 abbrev pub load : State → ℕ → Answer
 load s w =
-    if funct3 w == 0 then loads s w 1 (extended 128) (plus (source1 s w) (immediate_i w))
-    else if funct3 w == 1 then loads s w 2 (extended 32768) (plus (source1 s w) (immediate_i w))
-    else if funct3 w == 2 then loads s w 4 (λ n. n) (plus (source1 s w) (immediate_i w))
-    else if funct3 w == 4 then loads s w 1 (λ n. n) (plus (source1 s w) (immediate_i w))
-    else if funct3 w == 5 then loads s w 2 (λ n. n) (plus (source1 s w) (immediate_i w))
+    if funct3 w == 0 then loads s (rd w) (extended 128) (loaded s 1 (plus (source1 s w) (immediate_i w)))
+    else if funct3 w == 1 then loads s (rd w) (extended 32768) (loaded s 2 (plus (source1 s w) (immediate_i w)))
+    else if funct3 w == 2 then loads s (rd w) (λ n. n) (loaded s 4 (plus (source1 s w) (immediate_i w)))
+    else if funct3 w == 4 then loads s (rd w) (λ n. n) (loaded s 1 (plus (source1 s w) (immediate_i w)))
+    else if funct3 w == 5 then loads s (rd w) (λ n. n) (loaded s 2 (plus (source1 s w) (immediate_i w)))
     else Err Illegal
 
 -- a store of so many low bytes of a value
@@ -149,8 +157,8 @@ executed s w =
     else if opcode w == 0b1100011 then branch s w
     else if opcode w == 0b0000011 then load s w
     else if opcode w == 0b0100011 then store s w
-    else if opcode w == 0b0010011 then gives_if s w (operation_immediate s w)
-    else if opcode w == 0b0110011 then gives_if s w (operation (funct7 w) (funct3 w) (source1 s w) (source2 s w))
+    else if opcode w == 0b0010011 then gives_if s (rd w) (operation_immediate s w)
+    else if opcode w == 0b0110011 then gives_if s (rd w) (operation (funct7 w) (funct3 w) (source1 s w) (source2 s w))
     else if opcode w == 0b0001111 then fence s w
     else system w
 

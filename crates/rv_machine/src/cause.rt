@@ -1,3 +1,7 @@
+// Why a step can't be taken.
+
+use std::fmt;
+
 /// Why a step can't be taken. The causes are tested in the order in which they stand here.
 #[derive(Clone, Copy, Debug, PartialEq, Eq)]
 pub enum Cause {
@@ -21,4 +25,22 @@ pub enum Cause {
     StoreMisaligned,
     /// A byte of a store lies outside the memory.
     StoreOutside,
+}
+
+/// The cause in the words of the trap's report.
+impl fmt::Display for Cause {
+    fn fmt<W: fmt::Write>(&self, f: &mut fmt::Formatter<W>) -> fmt::Result {
+        f.write_str(match self {
+            Cause::FetchMisaligned => "fetch-misaligned",
+            Cause::FetchOutside => "fetch-outside",
+            Cause::Illegal => "illegal",
+            Cause::Ecall => "ecall",
+            Cause::Ebreak => "ebreak",
+            Cause::JumpMisaligned => "jump-misaligned",
+            Cause::LoadMisaligned => "load-misaligned",
+            Cause::LoadOutside => "load-outside",
+            Cause::StoreMisaligned => "store-misaligned",
+            Cause::StoreOutside => "store-outside",
+        })
+    }
 }

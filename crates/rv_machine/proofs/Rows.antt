@@ -3,7 +3,7 @@ use Rattle.std.proofs.Common.{◌≡◌, ℕ, ◌*◌, ◌/◌, ◌%◌, Some, O
 use Rattle.rv_machine.specs.Word.{plus}
 use Rattle.rv_machine.specs.Fields.{opcode, rd, funct3, rs1, rs2, immediate_i, immediate_s, immediate_u}
 use Rattle.rv_machine.specs.State.{State, register, with_register, number_at, with_number}
-use Rattle.rv_machine.specs.Step.{Answer, gives, jumps, loads, stores, executed, step}
+use Rattle.rv_machine.specs.Step.{Answer, gives, jumps, loaded, stores, executed, step}
 
 -- the word stands at the program counter, and does this
 pub step_by : (s : State) (w : ℕ) (answer : Answer) → s.pc % 4 ≡ 0 → number_at s.mem 4 s.pc ≡ Some w → executed s w ≡ answer → step s ≡ answer
@@ -20,7 +20,7 @@ executed_addi s w d r i value row variant destination source immediate sum =
     rw (row, variant, destination, source, immediate, sum)
 
 pub executed_lw : (s : State) (w d r i a value : ℕ) → opcode w ≡ 3 → funct3 w ≡ 2 → rd w ≡ d → rs1 w ≡ r → immediate_i w ≡ i → plus (register s.regs r) i ≡ a → a % 4 ≡ 0 → number_at s.mem 4 a ≡ Some value → executed s w ≡ Ok (record { regs = with_register s.regs d value; pc = plus s.pc 4; mem = s.mem })
-unfolding executed loads gives
+unfolding executed loaded gives
 executed_lw s w d r i a value row variant destination source immediate address aligned stands =
     rw (row, variant, source, immediate, address, aligned, stands, destination)
 

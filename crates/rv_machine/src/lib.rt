@@ -12,3 +12,6 @@ mod running;
 pub use cause::Cause;
 pub use machine::Machine;
 pub use running::End;
+
+#[cfg(test)]
+mod tests;

@@ -1,0 +1,5 @@
+use Rattle.sx_text.proofs.Printed.{printed_is_read}
+use Rattle.sx_text.proofs.round_trip.printed_form_is_read.Goals as goal
+
+pub returns : goal.returns
+returns c = printed_is_read

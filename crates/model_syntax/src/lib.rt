@@ -3,10 +3,14 @@
 
 mod copy;
 mod expr;
+mod limits;
+mod names;
 mod program;
 mod stmt;
 
 pub use copy::copy_expr;
 pub use expr::{Cmp, Expr, Op, Scalar};
+pub use limits::{block_depth, expression_depth, over_limit, statements, table_bytes};
+pub use names::{first_names, is_declared};
 pub use program::{Len, Model, Param, Ret};
 pub use stmt::{Le, Lin, Stmt};

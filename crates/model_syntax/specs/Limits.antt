@@ -125,6 +125,10 @@ tables m = sum (map stmt_tables m.body)
 abbrev pub counted : ℕ → ℕ
 counted n = min n 4294967295
 
+-- the number after k, likewise
+abbrev pub next : ℕ → ℕ
+next k = counted (k + 1)
+
 -- the first limit that a model passes, with what it has
 abbrev pub over_limit : Model → Option (Limit × ℕ)
 over_limit m =

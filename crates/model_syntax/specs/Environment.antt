@@ -1,5 +1,5 @@
 -- The values of names: a finite map, written as a list in which the first binding of a name counts.
-use Rattle.std.specs.Prelude.{ℕ, Bool, List, [], ◌∷◌, Option, Some, None, if◌then◌else◌}
+use Rattle.std.specs.Prelude.{ℕ, List, [], ◌∷◌, Option, Some, None, if◌then◌else◌}
 use Rattle.rup_base.specs.declared.arg.Arg.{Arg}
 use Rattle.rup_base.specs.declared.arg.Arg.TheVariants.{Word, Bytes, Words}
 use Rattle.model_syntax.specs.declared.scope.Binding.{Binding}

@@ -1,5 +1,5 @@
 -- The types of expressions, or the first fault in text order. A wrong type comes after the faults inside.
-use Rattle.std.specs.Prelude.{Bool, Result, Ok, Err, if◌then◌else◌}
+use Rattle.std.specs.Prelude.{Result, Ok, Err, if◌then◌else◌}
 use Rattle.rup_base.specs.declared.refusal.TypeWhy.{TypeWhy}
 use Rattle.rup_base.specs.declared.refusal.TypeWhy.TheVariants as why
 use Rattle.model_syntax.specs.declared.expr.Scalar.{Scalar}
@@ -38,9 +38,7 @@ type_step (e.Var x) c = scalar_in (look_up c x)
 type_step (e.Length a) c = do
   _ ← element_in (look_up c a)
   Ok Word
-type_step (e.Bin op p q) c = do
-  _ ← both_wanted Word (p c) (q c)
-  Ok Word
+type_step (e.Bin op p q) c = both_wanted Word (p c) (q c)
 type_step (e.Test cmp p q) c = do
   _ ← both_wanted Word (p c) (q c)
   Ok Flag

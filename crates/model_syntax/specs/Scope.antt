@@ -1,5 +1,5 @@
 -- The names in scope and their types: a finite map, written as a list in which the last entry of a name counts.
-use Rattle.std.specs.Prelude.{ℕ, nat_eq, Bool, true, false, ◌&&◌, List, [], ◌∷◌, ◌++◌, Option, Some, None, Result, Ok, Err, if◌then◌else◌}
+use Rattle.std.specs.Prelude.{nat_eq, Bool, true, false, ◌&&◌, List, [], ◌∷◌, ◌++◌, Option, Some, None, Result, Ok, Err, if◌then◌else◌}
 use Rattle.std.specs.Option.{option_or}
 use Rattle.rup_base.specs.declared.refusal.TypeWhy.{TypeWhy}
 use Rattle.rup_base.specs.declared.refusal.TypeWhy.TheVariants as why
@@ -43,10 +43,10 @@ same_type (One t) (One u) = same_scalar t u
 same_type (Many t n) (Many u k) = same_scalar t u && same_length n k
 same_type t u = false
 
--- what a name is that has to be in scope
-abbrev pub known : Option NameType → Result NameType TypeWhy
+-- a name has to be in scope
+abbrev pub known : Option NameType → Result (Unit {0}) TypeWhy
 known None = Err why.Unknown
-known (Some t) = Ok t
+known (Some t) = Ok tt
 
 -- what a name is where a scalar is wanted
 abbrev pub scalar_in : Option NameType → Result Scalar TypeWhy

@@ -1,0 +1,11 @@
+pub mod Answer
+pub mod Environment
+pub mod ExprType
+pub mod Limits
+pub mod Linear
+pub mod Names
+pub mod Operation
+pub mod Scope
+pub mod Spelling
+pub mod Types
+pub mod Value

@@ -1,0 +1,21 @@
+//! The terms of the model language. Their limits, types and value are definitions of `specs/`.
+#![tactic(auto)]
+
+mod copy;
+mod expr;
+mod limits;
+mod names;
+mod program;
+mod scope;
+mod stmt;
+
+pub use copy::copy_expr;
+pub use expr::{Cmp, Expr, Op, Scalar};
+pub use limits::{block_depth, expression_depth, over_limit, statements, table_bytes};
+pub use names::{first_names, is_declared};
+pub use program::{Len, Model, Param, Ret};
+pub use scope::{Binding, Entry, Linear, NameType, Term};
+pub use stmt::{Le, Lin, Stmt};
+
+#[cfg(test)]
+mod tests;

@@ -1,0 +1,63 @@
+-- The theorem that an image carries: called on any state that is ready, it returns within its stated steps with the model's value, and changes nothing else.
+use Rattle.std.specs.Prelude.{◌≡◌, ◌≢◌, ℕ, ◌+◌, ◌≤◌, ◌<◌, List, [], ◌∷◌, length, take, Option, Some, None, Ok, IsSome, ◌↔◌, ◌⊎◌, sum_by, slice_index, slice_index_or, ⊤}
+use Rattle.std.specs.List.{AllByRecursion}
+use Rattle.std.specs.FinMap.{get}
+use Rattle.rup_base.specs.declared.arg.Kind.{Kind}
+use Rattle.rup_base.specs.declared.arg.Arg.{Arg}
+use Rattle.rup_base.specs.declared.arg.Arg.TheVariants as arg
+use Rattle.rv_machine.specs.State.{Bytes, State, register}
+use Rattle.rv_machine.specs.Step.{after}
+use Rattle.rup_top.specs.declared.literal_model.LiteralModel.{LiteralModel}
+use Rattle.rup_top.specs.Image.{Image, Form, registers_of}
+use Rattle.rup_top.specs.Arguments.{array_bytes, symbol_values, bound_value}
+use Rattle.rup_top.specs.Model.{parameters, requirements, results, value}
+use Rattle.rup_top.specs.Ready.{Range, Within, Stands, image_range, stack_range, array_range, Ready}
+
+-- the register that holds the pointer of a parameter
+abbrev pub register_of : List Kind → ℕ → ℕ
+register_of kinds p = 10 + sum_by registers_of (take p kinds)
+
+-- scalar results are in a0 and a1, in order; a returned array stands where its parameter's did
+abbrev pub HasResults : List Kind → List (Option ℕ) → List Arg → ℕ → State → State → Type 0
+HasResults kinds [] [] r s u = ⊤
+HasResults kinds (None ∷ rets) (arg.Word n ∷ results) r s u = (register u.regs r ≡ n) × HasResults kinds rets results (r + 1) s u
+HasResults kinds (Some p ∷ rets) (result ∷ results) r s u =
+    Stands u.mem (register s.regs (register_of kinds p)) (array_bytes result) × HasResults kinds rets results r s u
+HasResults kinds rets results r s u = ⊥
+
+-- an address in the range of a returned array
+abbrev pub Returned : List Kind → List (Option ℕ) → List Arg → State → ℕ → Type 0
+Returned kinds [] args s address = ⊥
+Returned kinds (None ∷ rets) args s address = Returned kinds rets args s address
+Returned kinds (Some p ∷ rets) args s address =
+    Within (array_range (register_of kinds p) (slice_index_or args p (arg.Word 0)) s) address ⊎ Returned kinds rets args s address
+
+-- sp, gp and tp are x2 to x4; s0 and s1 are x8 and x9; s2 to s11 are x18 to x27
+abbrev pub IsSaved : ℕ → Type 0
+IsSaved r = ((2 ≤ r) × (r ≤ 4)) ⊎ (((8 ≤ r) × (r ≤ 9)) ⊎ ((18 ≤ r) × (r ≤ 27)))
+
+-- before a step of the call: no step has trapped, the place lies in the image, and is not the one to return to
+pub record IsUnderWay (i : Image) (base : ℕ) (s : State) (j : ℕ) : Type 0 where
+  pub state : State
+  pub ran : after j s ≡ Ok state
+  pub in_image : Within (image_range i base) state.pc
+  pub not_back : state.pc ≢ register s.regs 1
+
+-- the call that starts in s returns: `steps` is the least number of steps after which pc is the start's ra
+pub record Returns (m : LiteralModel) (i : Image) (args : List Arg) (base : ℕ) (s : State) : Type 0 where
+  pub steps : ℕ
+  pub end : State
+  pub ran : after steps s ≡ Ok end
+  pub back : end.pc ≡ register s.regs 1
+  pub before : (j : ℕ) → j < steps → IsUnderWay i base s j
+  pub in_time : steps ≤ bound_value (symbol_values i.params args) i.bound
+  pub has_results : HasResults i.params i.rets (value m args) 10 s end
+  pub saved : (r : ℕ) → IsSaved r → register end.regs r ≡ register s.regs r
+  pub same_addresses : (address : ℕ) → IsSome (get end.mem address) ↔ IsSome (get s.mem address)
+  pub others : (address : ℕ) → (Within (stack_range i s) address → ⊥) → (Returned i.params i.rets args s address → ⊥) → get end.mem address ≡ get s.mem address
+
+pub record Good (m : LiteralModel) (i : Image) : Type 0 where
+  pub params_are : i.params ≡ parameters m
+  pub requires_are : i.requires_ ≡ requirements m
+  pub rets_are : i.rets ≡ results m
+  pub returns : (args : List Arg) (base : ℕ) (s : State) → Ready m i args base s → Returns m i args base s

@@ -1,0 +1,5 @@
+use Rattle.rv_code.proofs.Same.{same}
+use Rattle.rv_code.proofs.encoding.one_instruction_a_word.Goals as goal
+
+pub returns : goal.returns
+returns c = same

@@ -1,0 +1,19 @@
+use Rattle.std.proofs.Common.{◌∙◌, sym, refl, arith}
+use Rattle.rv_memory.proofs.Lookup.{found_low, found_high, read_none, write_found, found_some}
+use Rattle.rv_memory.proofs.region.write.Goals as goal
+
+pub returns-in_default-clause-found : goal.returns-in_default-clause-found
+returns-in_default-clause-found c = let e = read_none c.args.at c.args.regions.now (sym c.find.ensures ∙ c.in_default.is) in grind (arith, e)
+
+pub overflow_sub-k : goal.overflow_sub-k
+overflow_sub-k c = found_low c.args.at c.args.regions.now c.in-Some.i c.index-regions-i.result (sym c.find.ensures ∙ c.in-Some.is)
+
+pub index_mut-requires : goal.index_mut-requires
+index_mut-requires c = found_high c.args.at c.args.regions.now c.in-Some.i c.index-regions-i.result (sym c.find.ensures ∙ c.in-Some.is)
+
+pub returns-clause-found : goal.returns-clause-found
+returns-clause-found c =
+    (λ _. found_some c.args.at c.args.regions.now c.in-Some.i c.index-regions-i.result (sym c.find.ensures ∙ c.in-Some.is), λ _. refl)
+
+pub returns-clause-value : goal.returns-clause-value
+returns-clause-value c = write_found c.args.at c.args.byte c.args.regions.now c.in-Some.i c.index-regions-i.result (sym c.find.ensures ∙ c.in-Some.is)

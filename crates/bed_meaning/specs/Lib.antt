@@ -1,0 +1,7 @@
+pub mod Access
+pub mod Locals
+pub mod Meaning
+pub mod MoreFuel
+pub mod Outcome
+pub mod State
+pub mod Value

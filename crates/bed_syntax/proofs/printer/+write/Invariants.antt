@@ -1,0 +1,7 @@
+use Rattle.std.proofs.Common.{◌≡◌, ◌++◌, map, drop}
+use Rattle.bed_syntax.specs.Spelling as spelling
+use Rattle.bed_syntax.proofs.printer.+write.Given as goal
+
+abbrev pub invariant-write_cmds-loop-c : goal.invariant-write_cmds-loop-c
+invariant-write_cmds-loop-c l =
+    l.out ++ spelling.behind_spaces (map spelling.cmd_text (drop l.c-index l.cs)) ≡ l.fn.out ++ spelling.behind_spaces (map spelling.cmd_text l.cs)

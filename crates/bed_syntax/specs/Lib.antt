@@ -1,0 +1,5 @@
+pub mod Operation
+pub mod Named
+pub mod Shape
+pub mod Spelling
+pub mod Weight

@@ -1,0 +1,19 @@
+//! Bedrock2 commands: their types, their text, what each of their nodes weighs, and what is counted of them.
+//! `specs/` has what the crates above say of commands: the operations on words, weights, named instructions,
+//! depth and locals.
+#![tactic(auto)]
+
+mod command;
+mod expression;
+mod operation;
+mod printer;
+mod weights;
+
+pub use command::Cmd;
+pub use expression::BExpr;
+pub use operation::{BOp, Size};
+pub use printer::print_cmd;
+pub use weights::Weights;
+
+#[cfg(test)]
+mod tests;

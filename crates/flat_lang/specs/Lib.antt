@@ -1,0 +1,4 @@
+pub mod Count
+pub mod Meaning
+pub mod State
+pub mod Whole

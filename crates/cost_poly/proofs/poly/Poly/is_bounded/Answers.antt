@@ -1,0 +1,5 @@
+use Rattle.cost_poly.proofs.Places.{coefficients_small}
+use Rattle.cost_poly.proofs.poly.Poly.is_bounded.Goals as goal
+
+pub returns-clause-coefficients : goal.returns-clause-coefficients
+returns-clause-coefficients c = rw (← c.self.view_is) (coefficients_small 0 _ c.self.invariant.2)

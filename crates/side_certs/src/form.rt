@@ -1,0 +1,280 @@
+//! A linear form: a constant, and at most 16 symbols with a coefficient each.
+ghost use Rattle.std.specs.Prelude.{◌≡◌, [], ◌∷◌, ◌++◌, ◌+◌, ◌<◌, ◌≤◌, ◌+ℤ◌, ◌*ℤ◌, ◌↔◌, List, ℕ, ℤ, pos, length, true, false, slice_get, IsTrue, MatchOption, if◌then◌else◌, ◌&&◌, nat_lt};
+ghost use Rattle.std.specs.Ordering.{int_eq};
+ghost use Rattle.side_certs.specs.LinearForm as linear;
+
+use std::marker::Model;
+
+/// The greatest number of symbols in a form.
+const MOST_TERMS: usize = 16;
+
+/// The greatest magnitude of a constant and of a coefficient.
+const GREATEST_NUMBER: u128 = 1 << 40;
+
+/// A constant and at most 16 terms, each a symbol with its coefficient. No number has a magnitude over 2^40.
+#[derive(Debug, Drop)]
+pub struct Form {
+    constant: i64,
+    count: usize,
+    slots: [(u32, i64); 16],
+}
+
+impl Model for Form {
+    ghost use Rattle.std.specs.Prelude.{◌≡◌, ◌≤◌, take, true};
+    ghost use Rattle.side_certs.specs.LinearForm.{LinearForm, is_within};
+
+    ghost Value = { LinearForm };
+
+    ghost view = { λ f. record { constant = f.constant; terms = take f.count f.slots } };
+
+    ghost invariant = { λ f. (f.count ≤ 16) × (is_within (record { constant = f.constant; terms = take f.count f.slots }) ≡ true) };
+}
+
+impl Form {
+    /// The form that is the number `k`. None exactly where `k` passes the limit.
+    pub fn constant(k: i64) -> Option<Form>
+        ensures { result ≡ linear.within (linear.constant k) }
+    {
+        Form::start(i128::from(k))
+    }
+
+    /// The form that is the symbol `s`.
+    pub fn symbol(s: u32) -> Form
+        ensures { result ≡ linear.symbol s }
+    {
+        let mut slots = [(0, 0); 16];
+        slots[0] = (s, 1);
+        Form {
+            constant: 0,
+            count: 1,
+            slots,
+        }
+    }
+
+    /// The number that is added to the terms.
+    pub fn constant_part(&self) -> i64
+        ensures { result ≡ self.now.constant }
+    {
+        self.constant
+    }
+
+    /// The symbols with their coefficients, in the order of the symbols.
+    pub fn terms(&self) -> &[(u32, i64)]
+        ensures terms { result.now ≡ self.now.terms }
+        ensures count { length result.now ≤ 16 }
+    {
+        &self.slots[..self.count]
+    }
+
+    /// The term of this number, from 0. None where there are no more terms.
+    pub fn term_at(&self, index: usize) -> Option<(u32, i64)>
+        ensures { result ≡ slice_get self.now.terms index }
+    {
+        self.terms().get(index).copied()
+    }
+
+    /// The sum of both forms. None exactly where it passes a limit.
+    pub fn add(&self, other: &Form) -> Option<Form>
+        ensures { result ≡ linear.within (linear.plus self.now other.now) }
+    {
+        let mut sum = Form::start(total(self.constant, other.constant))?;
+        let mut left = self.terms();
+        let mut right = other.terms();
+        'terms: loop {
+            match first(left, right) {
+                None => return sum.done(),
+                Some(next) => {
+                    if !sum.push(next.symbol, next.coefficient) {
+                        return None;
+                    }
+                    left = next.left;
+                    right = next.right;
+                }
+            }
+        }
+    }
+
+    /// This form less the other. None exactly where the difference passes a limit.
+    pub fn sub(&self, other: &Form) -> Option<Form>
+        ensures { result ≡ linear.within (linear.minus self.now other.now) }
+    {
+        other.keeps_limits();
+        self.add(&other.scale(-1)?)
+    }
+
+    /// `k` times the form. None exactly where that passes a limit.
+    pub fn scale(&self, k: i64) -> Option<Form>
+        ensures { result ≡ linear.within (linear.times k self.now) }
+    {
+        let mut multiple = Form::start(product(k, self.constant))?;
+        let mut left = self.terms();
+        'terms: loop {
+            match first_multiple(k, left) {
+                None => return multiple.done(),
+                Some(next) => {
+                    if !multiple.push(next.symbol, next.coefficient) {
+                        return None;
+                    }
+                    left = next.left;
+                }
+            }
+        }
+    }
+
+    /// Puts a term behind the last one, where it has room; a coefficient 0 leaves nothing to put.
+    fn push(&mut self, symbol: u32, coefficient: i128) -> bool
+        ensures room { result ≡ linear.has_room self.old coefficient }
+        ensures put { self.new ≡ (if result then linear.put_behind self.old symbol coefficient else self.old) }
+    {
+        if is_zero(coefficient) {
+            return true;
+        }
+        if self.count == MOST_TERMS {
+            return false;
+        }
+        if !is_small(coefficient) {
+            return false;
+        }
+        self.slots[self.count] = (symbol, coefficient as i64);
+        self.count += 1;
+        true
+    }
+
+    /// Each form passes no limit.
+    fn done(self) -> Option<Form>
+        ensures { result ≡ linear.within self }
+    {
+        let _ = &self.constant;
+        Some(self)
+    }
+
+    fn keeps_limits(&self)
+        ensures { linear.is_within self.now ≡ true }
+    {
+        let _ = &self.constant;
+    }
+
+    /// The number alone, of which the terms of a result are put behind one another.
+    fn start(k: i128) -> Option<Form>
+        ensures within { result ≡ linear.within (linear.constant k) }
+        ensures started { MatchOption result (linear.is_small k ≡ false) (λ f. (f.constant ≡ k) × (f.terms ≡ [])) }
+    {
+        if !is_small(k) {
+            return None;
+        }
+        Some(Form {
+            constant: k as i64,
+            count: 0,
+            slots: [(0, 0); 16],
+        })
+    }
+}
+
+/// The first term of two lists of terms in one, and what is left of both.
+#[derive(Clone, Copy)]
+struct Next<'a> {
+    symbol: u32,
+    coefficient: i128,
+    left: &'a [(u32, i64)],
+    right: &'a [(u32, i64)],
+}
+
+/// Takes the first symbol off both lists. None where both are empty.
+fn first<'a>(left: &'a [(u32, i64)], right: &'a [(u32, i64)]) -> Option<Next<'a>>
+    ensures { MatchOption result
+        ((left.now ≡ []) × (right.now ≡ []))
+        (λ next. (linear.merge left.now right.now ≡ linear.keep next.symbol next.coefficient (linear.merge next.left.now next.right.now))
+        × (length next.left.now + length next.right.now < length left.now + length right.now)) }
+{
+    match (left, right) {
+        ([], []) => None,
+        ([t, ts @ ..], []) => Some(Next {
+            symbol: t.0,
+            coefficient: i128::from(t.1),
+            left: ts,
+            right,
+        }),
+        ([], [u, us @ ..]) => Some(Next {
+            symbol: u.0,
+            coefficient: i128::from(u.1),
+            left,
+            right: us,
+        }),
+        ([t, ts @ ..], [u, us @ ..]) => {
+            if t.0 < u.0 {
+                Some(Next {
+                    symbol: t.0,
+                    coefficient: i128::from(t.1),
+                    left: ts,
+                    right,
+                })
+            } else if t.0 == u.0 {
+                Some(Next {
+                    symbol: t.0,
+                    coefficient: total(t.1, u.1),
+                    left: ts,
+                    right: us,
+                })
+            } else {
+                Some(Next {
+                    symbol: u.0,
+                    coefficient: i128::from(u.1),
+                    left,
+                    right: us,
+                })
+            }
+        }
+    }
+}
+
+/// The first term of a list of terms, `k` times, and what is left of the list.
+#[derive(Clone, Copy)]
+struct Multiple<'a> {
+    symbol: u32,
+    coefficient: i128,
+    left: &'a [(u32, i64)],
+}
+
+/// Takes the first symbol off the list. None where it is empty.
+fn first_multiple(k: i64, terms: &[(u32, i64)]) -> Option<Multiple<'_>>
+    ensures { MatchOption result
+        (terms.now ≡ [])
+        (λ next. (linear.terms_times k terms.now ≡ linear.keep next.symbol next.coefficient (linear.terms_times k next.left.now))
+        × (length next.left.now < length terms.now)) }
+{
+    match terms {
+        [] => None,
+        [t, left @ ..] => Some(Multiple {
+            symbol: t.0,
+            coefficient: product(k, t.1),
+            left,
+        }),
+    }
+}
+
+/// The sum, which has room in 128 bits.
+fn total(a: i64, b: i64) -> i128
+    ensures { result ≡ a +ℤ b }
+{
+    i128::from(a) + i128::from(b)
+}
+
+/// The product, which has room in 128 bits.
+fn product(a: i64, b: i64) -> i128
+    ensures { result ≡ a *ℤ b }
+{
+    i128::from(a) * i128::from(b)
+}
+
+fn is_zero(k: i128) -> bool
+    ensures { result ≡ int_eq k (pos 0) }
+{
+    k == 0
+}
+
+/// The magnitude of `k` is within the limit.
+fn is_small(k: i128) -> bool
+    ensures { result ≡ linear.is_small k }
+{
+    k.unsigned_abs() <= GREATEST_NUMBER
+}

@@ -1,0 +1,11 @@
+//! The image, which a device loads and calls, and its layout in bytes, version 1: writing and reading.
+#![tactic(auto)]
+
+mod image;
+mod writing;
+
+pub use image::Image;
+pub use writing::write_image;
+
+#[cfg(test)]
+mod tests;

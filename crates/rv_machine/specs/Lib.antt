@@ -5,3 +5,4 @@ pub mod Step
 pub mod Effect
 pub mod View
 pub mod Run
+pub mod Causes

@@ -1,5 +1,8 @@
 // Why a step can't be taken.
 
+ghost use Rattle.std.specs.Prelude.{◌≡◌, Some};
+ghost use Rattle.rv_machine.specs.Causes.{cause_text};
+
 use std::fmt;
 
 /// Why a step can't be taken. The causes are tested in the order in which they stand here.
@@ -29,6 +32,8 @@ pub enum Cause {
 
 /// The cause in the words of the trap's report.
 impl fmt::Display for Cause {
+    ghost output = { λ cause. Some (cause_text cause) };
+
     fn fmt<W: fmt::Write>(&self, f: &mut fmt::Formatter<W>) -> fmt::Result {
         f.write_str(match self {
             Cause::FetchMisaligned => "fetch-misaligned",

@@ -1,5 +1,6 @@
 -- The values of names: a finite map, written as a list in which the first binding of a name counts.
-use Rattle.std.specs.Prelude.{ℕ, List, [], ◌∷◌, Option, Some, None, if◌then◌else◌}
+use Rattle.std.specs.Prelude.{ℕ, ◌%◌, min, List, [], ◌∷◌, length, map, Option, Some, None, if◌then◌else◌}
+use Rattle.std.proofs.Math.ListN.{set}
 use Rattle.rup_base.specs.declared.arg.Arg.{Arg}
 use Rattle.rup_base.specs.declared.arg.Arg.TheVariants.{Word, Bytes, Words}
 use Rattle.model_syntax.specs.declared.scope.Binding.{Binding}
@@ -19,7 +20,7 @@ bound x v = record { name = x; value = v }
 -- the environment in which a name has a value
 abbrev pub put : Name → Arg → Env → Env
 put x v [] = bound x v ∷ []
-put x v (b ∷ bs) = if same b.name x then bound b.name v ∷ bs else b ∷ put x v bs
+put x v (b ∷ bs) = if same b.name x then bound x v ∷ bs else b ∷ put x v bs
 
 -- the same for a value that may be missing, which in a well typed model it never is
 abbrev pub put_some : Name → Option Arg → Env → Env
@@ -37,11 +38,22 @@ elements (Some (Bytes ns)) = ns
 elements (Some (Words ns)) = ns
 elements v = []
 
--- an array with other elements
-abbrev pub with_elements : (List ℕ → List ℕ) → Option Arg → Option Arg
-with_elements change (Some (Bytes ns)) = Some (Bytes (change ns))
-with_elements change (Some (Words ns)) = Some (Words (change ns))
-with_elements change v = v
+-- the number of elements as a word. An array that is an argument has at most 4294967295, so that this is its length.
+abbrev pub size : List ℕ → ℕ
+size ns = min (length ns) 4294967295
+
+-- an array with an element put, which outside it changes nothing. An array of bytes takes the lowest byte of the number;
+-- in a well typed model that is the number.
+abbrev pub with_element : ℕ → ℕ → Option Arg → Option Arg
+with_element i n (Some (Bytes ns)) = Some (Bytes (set ns i (n % 256)))
+with_element i n (Some (Words ns)) = Some (Words (set ns i n))
+with_element i n v = v
+
+-- an array with another number for each element, of which an array of bytes takes the lowest byte too
+abbrev pub with_each : (ℕ → ℕ) → Option Arg → Option Arg
+with_each change (Some (Bytes ns)) = Some (Bytes (map (λ n. n % 256) (map change ns)))
+with_each change (Some (Words ns)) = Some (Words (map change ns))
+with_each change v = v
 
 -- the environment after a block: only the listed names have their values from its end
 abbrev pub carry : List Name → Env → Env → Env

@@ -1,7 +1,7 @@
 -- The value of a model: a recursion on its terms over environments. Nothing here knows memory or machines.
 use Rattle.std.specs.Prelude.{◌≡◌, ℕ, ◌+◌, ◌-◌, ◌*◌, ◌%◌, nat_eq, nat_le, Bool, true, false, not, ◌&&◌, ◌||◌, List, [], ◌∷◌, map, fold, length, Some, None, Result, Ok, Err, if◌then◌else◌}
 use Rattle.std.specs.List.{range_with_len}
-use Rattle.std.proofs.Math.ListN.{get_or, set}
+use Rattle.std.proofs.Math.ListN.{get_or}
 use Rattle.rup_base.specs.declared.arg.Arg.{Arg}
 use Rattle.rup_base.specs.declared.arg.Arg.TheVariants.{Word, Bytes, Words}
 use Rattle.rup_base.specs.declared.refusal.ArgFault.TheVariants.{Count, Param as OfParam, Require as OfRequire}
@@ -22,7 +22,7 @@ use Rattle.model_syntax.specs.declared.program.Ret.{Ret}
 use Rattle.model_syntax.specs.declared.program.Ret.TheVariants as ret
 use Rattle.model_syntax.specs.declared.program.Model.{Model}
 use Rattle.model_syntax.specs.Answer.{◌>>=◌}
-use Rattle.model_syntax.specs.Environment.{Env, value_of, put, put_some, number, elements, with_elements, carry}
+use Rattle.model_syntax.specs.Environment.{Env, value_of, put, put_some, number, elements, size, with_element, with_each, carry}
 use Rattle.model_syntax.specs.Limits.{next}
 use Rattle.model_syntax.specs.Names.{Name}
 use Rattle.model_syntax.specs.Operation.{apply, holds}
@@ -40,7 +40,7 @@ is_true n = not (nat_eq n 0)
 abbrev pub eval_step : Expr-F (Env → ℕ) → Env → ℕ
 eval_step (e.Lit n) env = n
 eval_step (e.Var x) env = number (value_of env x)
-eval_step (e.Length a) env = length (elements (value_of env a))
+eval_step (e.Length a) env = size (elements (value_of env a))
 eval_step (e.Bin op p q) env = apply op (p env) (q env)
 eval_step (e.Test cmp p q) env = flag (holds cmp (p env) (q env))
 eval_step (e.Not p) env = flag (not (is_true (p env)))
@@ -85,16 +85,27 @@ element_of x v env old = eval v (put x (Word old) env)
 abbrev pub fold_turn : Name → Name → Expr → Env → ℕ → ℕ → ℕ
 fold_turn t x v env so_far element = eval v (put x (Word element) (put t (Word so_far) env))
 
+-- `b` is `a` with an element put
+abbrev pub element_put : Name → Name → Expr → Expr → Turn
+element_put b a i v env = put_some b (with_element (eval i env) (eval v env) (value_of env a)) env
+
+-- `a` has the new elements
+abbrev pub array_mapped : Name → Name → Expr → Turn
+array_mapped a x v env = put_some a (with_each (element_of x v env) (value_of env a)) env
+
+-- `t` is the fold over `a`, from the front
+abbrev pub array_folded : Name → Name → Name → Expr → Turn
+array_folded t a x v env = put t (Word (fold (fold_turn t x v env) (number (value_of env t)) (elements (value_of env a)))) env
+
 abbrev pub run_step : Stmt-F Turn → Turn
 run_step (s.Let x a) env = put x (Word (eval a env)) env
-run_step (s.Put a i v) env = put_some a (with_elements (λ ns. set ns (eval i env) (eval v env)) (value_of env a)) env
-run_step (s.Move b a i v) env = put_some b (with_elements (λ ns. set ns (eval i env) (eval v env)) (value_of env a)) env
+run_step (s.Put a i v) env = element_put a a i v env
+run_step (s.Move b a i v) env = element_put b a i v env
 run_step (s.If test xs keep first second) env =
     if is_true (eval test env) then carry xs (in_turn first env) env else carry xs (in_turn second env) env
 run_step (s.For x low high xs keep body) env = folded (loop_turn x xs body) (numbers (eval low env) (eval high env)) env
-run_step (s.Map a x v) env = put_some a (with_elements (map (element_of x v env)) (value_of env a)) env
-run_step (s.Fold t a x v) env =
-    put t (Word (fold (fold_turn t x v env) (number (value_of env t)) (elements (value_of env a)))) env
+run_step (s.Map a x v) env = array_mapped a x v env
+run_step (s.Fold t a x v) env = array_folded t a x v env
 
 abbrev pub run : Stmt → Turn
 run = fold-Stmt Turn run_step
@@ -115,16 +126,16 @@ fits (param.Words a k) (Words ns) = fits_length k (length ns)
 fits p v = false
 
 -- a named length is the array's
-abbrev pub bind_length : Len → List ℕ → Turn
-bind_length (Fixed k) ns env = env
-bind_length (Named x) ns env = put x (Word (length ns)) env
+abbrev pub bind_length : Len → ℕ → Turn
+bind_length (Fixed k) n env = env
+bind_length (Named x) n env = put x (Word n) env
 
 -- the environment with a parameter's argument
 abbrev pub bind_argument : Param → Arg → Turn
 bind_argument (param.Word x) v env = put x v env
 bind_argument (param.Byte x) v env = put x v env
-bind_argument (param.Bytes a k) v env = bind_length k (elements (Some v)) (put a v env)
-bind_argument (param.Words a k) v env = bind_length k (elements (Some v)) (put a v env)
+bind_argument (param.Bytes a k) v env = bind_length k (size (elements (Some v))) (put a v env)
+bind_argument (param.Words a k) v env = bind_length k (size (elements (Some v))) (put a v env)
 
 -- the environment at the start
 abbrev pub start : List Param → List Arg → Turn

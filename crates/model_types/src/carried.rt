@@ -1,0 +1,113 @@
+//! Names that a block carries over, and the names of counters and elements.
+ghost use Rattle.std.specs.Prelude.{◌≡◌, []};
+ghost use Rattle.rup_base.specs.Answers.{Answers};
+ghost use Rattle.model_syntax.specs.Names.{listed};
+ghost use Rattle.model_syntax.specs.Types as spec;
+ghost use Rattle.model_types.specs.Placed as placed;
+
+use crate::place::at;
+use crate::scope::{agreed, bind, copy_type, known, scalar_may_take};
+use model_syntax::Entry;
+use rup_base::{Fail, List, Name, TypePlace, TypeWhy};
+use std::alloc::Global;
+
+fn listed(names: &[Name], x: &Name) -> bool
+    ensures { result ≡ listed x.now names.now }
+{
+    names.iter().any(|name| x == name)
+}
+
+/// A name that is none of those before it.
+pub fn once(before: &[Name], x: &Name) -> Result<(), TypeWhy>
+    ensures { result ≡ spec.once before.now x.now }
+{
+    if listed(before, x) {
+        Err(TypeWhy::Repeated)
+    } else {
+        Ok(())
+    }
+}
+
+/// Names that stand once.
+pub fn distinct(names: &[Name]) -> Result<(), TypeWhy>
+    ensures { result ≡ spec.distinct [] names.now }
+{
+    for i in 0..names.len() {
+        once(&names[..i], &names[i])?;
+    }
+    Ok(())
+}
+
+/// Names that stand once and are in scope.
+pub fn distinct_known(scope: &[Entry], names: &[Name]) -> Result<(), TypeWhy>
+    ensures { result ≡ spec.distinct_known scope.now [] names.now }
+{
+    for i in 0..names.len() {
+        once(&names[..i], &names[i])?;
+        known(scope, &names[i])?;
+    }
+    Ok(())
+}
+
+/// The scope with the names of the types that they have at the ends of two blocks.
+#[tactic(auto, using(crate::proofs::AtPlace::joined_at))]
+pub fn joined(
+    alloc: Global,
+    place: TypePlace,
+    names: &[Name],
+    one: &[Entry],
+    two: &[Entry],
+    scope: List<Entry>,
+) -> Result<List<Entry>, Fail>
+    ensures { Answers result (spec.at place (spec.joined names.now one.now two.now scope)) }
+{
+    joined_one_by_one(alloc, place, names, one, two, scope)
+}
+
+fn joined_one_by_one(
+    alloc: Global,
+    place: TypePlace,
+    names: &[Name],
+    one: &[Entry],
+    two: &[Entry],
+    scope: List<Entry>,
+) -> Result<List<Entry>, Fail>
+    ensures { Answers result (placed.joined place names.now one.now two.now scope) }
+{
+    let mut after = scope;
+    for x in names {
+        let shape = at(place, agreed(one, two, x))?;
+        after = bind(alloc, after, x, copy_type(alloc, shape)?)?;
+    }
+    Ok(after)
+}
+
+/// The names have at the end of a block the types that they had before it.
+pub fn kept(names: &[Name], scope: &[Entry], end: &[Entry]) -> Result<(), TypeWhy>
+    ensures { result ≡ spec.kept names.now scope.now end.now }
+{
+    for x in names {
+        agreed(scope, end, x)?;
+    }
+    Ok(())
+}
+
+/// The counter of a loop.
+pub fn counter(scope: &[Entry], x: &Name, names: &[Name]) -> Result<(), TypeWhy>
+    ensures { result ≡ spec.counter x.now names.now scope.now }
+{
+    if listed(names, x) {
+        return Err(TypeWhy::Repeated);
+    }
+    scalar_may_take(scope, x)
+}
+
+/// The element of a fold over the scalar `t`.
+pub fn folded_element(scope: &[Entry], t: &Name, x: &Name) -> Result<(), TypeWhy>
+    ensures { result ≡ spec.folded_element t.now x.now scope.now }
+{
+    if t == x {
+        return Err(TypeWhy::Repeated);
+    }
+    scalar_may_take(scope, x)
+}

@@ -1,0 +1,37 @@
+//! The check of a model's types.
+ghost use Rattle.rup_base.specs.Answers.{Answers};
+ghost use Rattle.model_syntax.specs.Limits.{Within};
+ghost use Rattle.model_syntax.specs.Spelling.{Spellable};
+ghost use Rattle.model_syntax.specs.Types.{judge};
+ghost use Rattle.model_types.specs.Checked.{checked, model_of};
+
+use crate::facts::requirements;
+use crate::params::declare_params;
+use crate::ret_type::check_results;
+use crate::scope::copy_scope;
+use crate::stmt_type::check_block;
+use crate::typed::Typed;
+use model_syntax::Model;
+use rup_base::Fail;
+use std::alloc::Global;
+
+/// The model, if each rule of types holds; else the place and cause of the first fault in text order.
+pub fn check_types(alloc: Global, m: Model) -> Result<Typed, Fail>
+    requires within { Within m }
+    requires spellable { Spellable m }
+    ensures { Answers (model_of result) (checked m) }
+{
+    judge(alloc, &m)?;
+    Ok(Typed { inner: m })
+}
+
+/// All rules of types, in text order.
+fn judge(alloc: Global, m: &Model) -> Result<(), Fail>
+    ensures { Answers result (judge m.now) }
+{
+    let start = declare_params(alloc, m.params.as_slice())?;
+    requirements(alloc, m.requires_.as_slice(), start.as_slice())?;
+    let scope = copy_scope(alloc, start.as_slice())?;
+    let end = check_block(alloc, (0, scope), m.body.as_slice())?;
+    check_results(alloc, start.as_slice(), end.1.as_slice(), m.rets.as_slice())
+}

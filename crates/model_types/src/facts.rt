@@ -1,0 +1,75 @@
+//! Requirements and kept facts.
+ghost use Rattle.std.specs.Prelude.{◌≡◌};
+ghost use Rattle.rup_base.specs.Answers.{Answers};
+ghost use Rattle.rup_base.specs.declared.refusal.TypePlace.TheVariants.{Require};
+ghost use Rattle.model_syntax.specs.Types as spec;
+
+use crate::linear::linear;
+use crate::place::at;
+use crate::scope::scalar_in;
+use model_syntax::{Entry, Le, Lin};
+use rup_base::{Fail, TypePlace, TypeWhy};
+use std::alloc::Global;
+
+/// The greatest number of requirements.
+const REQUIREMENTS: u32 = 4096;
+
+/// The names in a side are scalars in scope.
+fn names_scalars(scope: &[Entry], side: &Lin) -> Result<(), TypeWhy>
+    ensures { result ≡ spec.names_scalars side.now scope.now }
+{
+    match side {
+        Lin::Const(_) => Ok(()),
+        Lin::Var(x) => {
+            scalar_in(scope, x)?;
+            Ok(())
+        }
+        Lin::Sum(p, q) => {
+            names_scalars(scope, p)?;
+            names_scalars(scope, q)
+        }
+        Lin::Scale(_, p) => names_scalars(scope, p),
+    }
+}
+
+#[tactic(auto, using(crate::proofs::AtPlace::at_then))]
+fn fact(alloc: Global, place: TypePlace, r: &Le, scope: &[Entry]) -> Result<(), Fail>
+    ensures { Answers result (spec.at place (spec.fact r.now scope.now)) }
+{
+    at(place, names_scalars(scope, &r.low))?;
+    at(place, names_scalars(scope, &r.high))?;
+    linear(alloc, place, &r.low)?;
+    linear(alloc, place, &r.high)?;
+    Ok(())
+}
+
+#[tactic(auto, using(crate::proofs::AtPlace::at_then))]
+pub fn facts(alloc: Global, place: TypePlace, rs: &[Le], scope: &[Entry]) -> Result<(), Fail>
+    ensures { Answers result (spec.at place (spec.facts rs.now scope.now)) }
+{
+    for r in rs {
+        fact(alloc, place, r, scope)?;
+    }
+    Ok(())
+}
+
+fn requirement(alloc: Global, k: u32, r: &Le, scope: &[Entry]) -> Result<(), Fail>
+    ensures { Answers result (spec.at (Require k) (spec.requirement k r.now scope.now)) }
+{
+    if k < REQUIREMENTS {
+        fact(alloc, TypePlace::Require(k), r, scope)
+    } else {
+        at(TypePlace::Require(k), Err(TypeWhy::WideForm))
+    }
+}
+
+pub fn requirements(alloc: Global, rs: &[Le], scope: &[Entry]) -> Result<(), Fail>
+    ensures { Answers result (spec.requirements 0 rs.now scope.now) }
+{
+    let mut k: u32 = 0;
+    for r in rs {
+        requirement(alloc, k, r, scope)?;
+        k = k.saturating_add(1);
+    }
+    Ok(())
+}

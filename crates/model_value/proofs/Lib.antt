@@ -1,0 +1,5 @@
+pub mod Bindings
+pub mod Turns
+pub mod Formed
+pub mod Sides
+pub mod Elements

@@ -6,3 +6,6 @@ mod flattening;
 mod names;
 
 pub use flattening::flatten;
+
+#[cfg(test)]
+mod tests;

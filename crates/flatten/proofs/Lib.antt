@@ -1,0 +1,14 @@
+mod Commands
+mod Counted
+mod CountedCommands
+mod Expressions
+mod Flattened
+mod Goes
+mod Growth
+mod Kept
+mod Loops
+mod Numbers
+mod Outcomes
+mod Places
+mod Readings
+mod WholeCode

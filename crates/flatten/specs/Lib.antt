@@ -1,0 +1,4 @@
+pub mod Code
+pub mod Keeps
+pub mod Locals
+pub mod Tables

@@ -1,0 +1,11 @@
+//! Commands to three-address code. `specs/Code.antt` says which code, and `specs/Keeps.antt` what it keeps.
+#![tactic(auto)]
+
+mod depth;
+mod flattening;
+mod names;
+
+pub use flattening::flatten;
+
+#[cfg(test)]
+mod tests;

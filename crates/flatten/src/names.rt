@@ -1,0 +1,126 @@
+//! The list of the locals of a command, in which each has its place.
+ghost use Rattle.std.specs.Prelude.{◌≡◌, ◌+◌, ◌^◌, ◌<◌, ◌≤◌, OnOk, IfOk, length, map, sum};
+ghost use Rattle.bed_syntax.specs.Shape.{expr_size, cmd_size, is_known, noted, all_noted, expr_locals, cmd_locals, in_turn};
+ghost use Rattle.flatten.specs.Code.{place};
+ghost use Rattle.flatten.specs.Locals.{numbers};
+
+use bed_syntax::{BExpr, Cmd};
+use rup_base::{List, NoMemory};
+use std::alloc::Global;
+
+/// The arguments, which are the first locals.
+#[tactic(auto, using(crate::proofs::Numbers::numbers_next))]
+pub fn arguments(alloc: Global, args: u32) -> Result<List<u32>, NoMemory>
+    ensures names { IfOk result (λ names. names ≡ numbers args) }
+    ensures counted { IfOk result (λ names. length names ≡ args) }
+{
+    let mut names = List::new(alloc);
+    for x in 0..args {
+        names.push(x)?;
+    }
+    Ok(names)
+}
+
+fn is_known(names: &[u32], x: u32) -> bool
+    ensures { result ≡ is_known names.now x }
+{
+    for name in names {
+        if *name == x {
+            return true;
+        }
+    }
+    false
+}
+
+/// Where a local stands in the list: its length where it does not.
+pub fn place_of(names: &[u32], x: u32) -> u32
+    requires { length names.now < 2 ^ 32 }
+    ensures { result ≡ place names.now x }
+{
+    let mut at = 0;
+    for name in names {
+        if *name == x {
+            return at;
+        }
+        at += 1;
+    }
+    at
+}
+
+/// Puts a local behind the list, unless it is there.
+pub fn note(names: &mut List<u32>, x: u32) -> Result<(), NoMemory>
+    ensures noted { OnOk result (names.new ≡ noted x names.old) }
+    ensures bounded { OnOk result (length names.new ≤ length names.old + 1) }
+{
+    if is_known(names.as_slice(), x) {
+        return Ok(());
+    }
+    names.push(x)
+}
+
+/// Notes each of the locals.
+pub fn note_all(names: &mut List<u32>, xs: &[u32]) -> Result<(), NoMemory>
+    ensures noted { OnOk result (names.new ≡ all_noted xs.now names.old) }
+    ensures bounded { OnOk result (length names.new ≤ length names.old + length xs.now) }
+{
+    for x in xs {
+        note(names, *x)?;
+    }
+    Ok(())
+}
+
+/// Notes the locals of an expression.
+pub fn note_expr(names: &mut List<u32>, e: &BExpr) -> Result<(), NoMemory>
+    ensures noted { OnOk result (names.new ≡ expr_locals e.now names.old) }
+    ensures bounded { OnOk result (length names.new ≤ length names.old + expr_size e.now) }
+{
+    match e {
+        BExpr::Lit(_) => Ok(()),
+        BExpr::Var(x) => note(names, *x),
+        BExpr::Bin(_, a, b) => {
+            note_expr(names, a)?;
+            note_expr(names, b)
+        }
+        BExpr::Load(_, a) => note_expr(names, a),
+        BExpr::Table(_, _, i) => note_expr(names, i),
+    }
+}
+
+/// Notes the locals of a command.
+#[cycle(note)]
+pub fn note_cmd(names: &mut List<u32>, c: &Cmd) -> Result<(), NoMemory>
+    ensures noted { OnOk result (names.new ≡ cmd_locals c.now names.old) }
+    ensures bounded { OnOk result (length names.new ≤ length names.old + cmd_size c.now) }
+{
+    match c {
+        Cmd::Set(x, e) => {
+            note_expr(names, e)?;
+            note(names, *x)
+        }
+        Cmd::Store(_, a, e) => {
+            note_expr(names, a)?;
+            note_expr(names, e)
+        }
+        Cmd::Cond(e, p, q) => {
+            note_expr(names, e)?;
+            note_cmd(names, p)?;
+            note_cmd(names, q)
+        }
+        Cmd::Seq(cs) => note_cmds(names, cs.as_slice()),
+        Cmd::While(e, p) => {
+            note_expr(names, e)?;
+            note_cmd(names, p)
+        }
+    }
+}
+
+#[cycle(note)]
+fn note_cmds(names: &mut List<u32>, cs: &[Cmd]) -> Result<(), NoMemory>
+    ensures noted { OnOk result (names.new ≡ in_turn (map cmd_locals cs.now) names.old) }
+    ensures bounded { OnOk result (length names.new ≤ length names.old + sum (map cmd_size cs.now)) }
+{
+    for c in cs {
+        note_cmd(names, c)?;
+    }
+    Ok(())
+}

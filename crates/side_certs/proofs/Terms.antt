@@ -9,7 +9,7 @@ use Rattle.std.proofs.lemmas.Int.{fits_signed_from_abs, unsigned_abs-mul}
 use Rattle.std.specs.Int.{w64}
 use Rattle.side_certs.specs.LinearForm.{LinearForm, is_small, all_small, is_within, within, keep, keep_all, merge_into, merge, rises_from, has_room, put_behind, terms_times, times}
 
-both : {a b : Bool} → a ≡ true → b ≡ true → (a && b) ≡ true
+pub both : {a b : Bool} → a ≡ true → b ≡ true → (a && b) ≡ true
 both {a = true} {b = b} p q = q
 both {a = false} {b = b} p q = absurd (cc)
 
@@ -21,7 +21,7 @@ and_false : (a b : Bool) → b ≡ false → (a && b) ≡ false
 and_false true b h = h
 and_false false b h = refl
 
-all_small-append : (ts : List (ℕ × ℤ)) (u : ℕ × ℤ) → all_small ts ≡ true → is_small u.1 ≡ true → all_small (ts ++ u ∷ []) ≡ true
+pub all_small-append : (ts : List (ℕ × ℤ)) (u : ℕ × ℤ) → all_small ts ≡ true → is_small u.1 ≡ true → all_small (ts ++ u ∷ []) ≡ true
 all_small-append [] u all small = both small refl
 all_small-append (t ∷ ts) u all small =
     let p = and_parts (is_small t.1) (all_small ts) all in
@@ -171,7 +171,7 @@ not_none f o p q = let e : ◌≡◌ {A = Option LinearForm} None (Some f) = p �
 
 -- Symbols that rise.
 
-rises_parts : (least : ℕ) (t : ℕ × ℤ) (ts : List (ℕ × ℤ)) → rises_from least (t ∷ ts) ≡ true → (least ≤ t.0) × (int_eq t.1 (pos 0) ≡ false) × (rises_from (t.0 + 1) ts ≡ true)
+pub rises_parts : (least : ℕ) (t : ℕ × ℤ) (ts : List (ℕ × ℤ)) → rises_from least (t ∷ ts) ≡ true → (least ≤ t.0) × (int_eq t.1 (pos 0) ≡ false) × (rises_from (t.0 + 1) ts ≡ true)
 rises_parts least t ts rise =
     let p = and_parts (nat_le least t.0 && not (int_eq t.1 (pos 0))) (rises_from (t.0 + 1) ts) rise in
     let q = and_parts (nat_le least t.0) (not (int_eq t.1 (pos 0))) p.0 in
@@ -181,7 +181,7 @@ rises_parts least t ts rise =
     not_true true e = absurd (cc)
     not_true false e = refl
 
-rises_made : (least : ℕ) (t : ℕ × ℤ) (ts : List (ℕ × ℤ)) → least ≤ t.0 → int_eq t.1 (pos 0) ≡ false → rises_from (t.0 + 1) ts ≡ true → rises_from least (t ∷ ts) ≡ true
+pub rises_made : (least : ℕ) (t : ℕ × ℤ) (ts : List (ℕ × ℤ)) → least ≤ t.0 → int_eq t.1 (pos 0) ≡ false → rises_from (t.0 + 1) ts ≡ true → rises_from least (t ∷ ts) ≡ true
 rises_made least t ts le not_zero rest = both (both (le-leb _ _ le) (rw not_zero refl)) rest
 
 rises_lower : (least less : ℕ) (ts : List (ℕ × ℤ)) → less ≤ least → rises_from least ts ≡ true → rises_from less ts ≡ true

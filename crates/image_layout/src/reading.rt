@@ -759,6 +759,8 @@ fn read_fields(alloc: Global, bytes: &[u8]) -> Result<Image, Fail>
 /// The image that the bytes are. NotImage has the offset of the first field that isn't whole or has a wrong value, in
 /// the order of the fields.
 pub fn read_image(alloc: Global, bytes: &[u8]) -> Result<Image, Fail>
+    ensures found { IfOk result (λ i. Layout i bytes.now) }
+    ensures only { (i : Image) → Layout i bytes.now → Answers result (Ok i) }
     ensures exact { Answers result (spec.read bytes.now) }
 {
     read_fields(alloc, bytes)

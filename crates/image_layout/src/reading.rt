@@ -12,6 +12,7 @@ ghost use Rattle.side_certs.specs.LinearForm.{is_small, rises_from};
 ghost use Rattle.cost_poly.specs.Polynomial.{can_follow, greatest_coefficient};
 
 use crate::image::Image;
+use crate::writing::NONE;
 use byteorder::{ByteOrder, LittleEndian};
 use cost_poly::{Poly, Term};
 use rup_base::{Fail, Kind, List, NoMemory, Refusal, Text};
@@ -20,9 +21,6 @@ use std::alloc::Global;
 
 /// The first four bytes of an image, as a number.
 const MARK: u32 = 0x3150_5552;
-
-/// The number that stands for no symbol and for a scalar.
-const NONE: u32 = u32::MAX;
 
 /// The greatest magnitude of a number of a requirement.
 const GREATEST_NUMBER: u64 = 1 << 40;

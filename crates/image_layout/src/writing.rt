@@ -14,7 +14,7 @@ use std::alloc::Global;
 const MAGIC: &[u8] = b"RUP1";
 
 /// The number that stands for no symbol and for a scalar.
-const NONE: u32 = u32::MAX;
+pub(crate) const NONE: u32 = u32::MAX;
 
 /// The length of the fields before the lists, in bytes.
 const FIXED: usize = 48;

@@ -27,13 +27,13 @@ product_place (suc (suc (suc (suc (suc (suc zero)))))) b le lt = omega arith
 product_place (suc (suc (suc (suc (suc (suc (suc zero))))))) b le lt = omega arith
 product_place (suc (suc (suc (suc (suc (suc (suc (suc a)))))))) b le lt = absurd (omega arith)
 
-place_below : (a b : Option ℕ) → AreSymbols 8 a b → place_of a b < 45
+pub place_below : (a b : Option ℕ) → AreSymbols 8 a b → place_of a b < 45
 place_below None None are = omega arith
 place_below None (Some b) are = absurd are
 place_below (Some a) None are = omega arith
 place_below (Some a) (Some b) are = product_place a b are.0 are.1
 
-length_below : (least : ℕ) (ts : List Term) → BoundFrom least 8 ts → least + length ts ≤ next_place least ts
+pub length_below : (least : ℕ) (ts : List Term) → BoundFrom least 8 ts → least + length ts ≤ next_place least ts
 length_below least [] are = omega arith
 length_below least (t ∷ ts) are =
     let rest : place_of t.first t.second + 1 + length ts ≤ next_place (place_of t.first t.second + 1) ts = length_below (place_of t.first t.second + 1) ts are.4 in
@@ -47,7 +47,7 @@ has_room slots count next a b size most next_is bound are after =
     let fewer : 0 + length (take count slots) ≤ next_place 0 (take count slots) = length_below 0 (take count slots) bound in
     omega (arith, length-take count slots)
 
-next_append : (least : ℕ) (ts : List Term) (t : Term) → next_place least (ts ++ t ∷ []) ≡ place_of t.first t.second + 1
+pub next_append : (least : ℕ) (ts : List Term) (t : Term) → next_place least (ts ++ t ∷ []) ≡ place_of t.first t.second + 1
 next_append least [] t = refl
 next_append least (u ∷ us) t = next_append (place_of u.first u.second + 1) us t
 

@@ -55,9 +55,13 @@ term a b c =
     if are_symbols a b && nat_le c greatest_coefficient then Some (if nat_eq c 0 then [] else make a b c ∷ [])
     else None
 
+-- the place of the symbols' product is behind those of the terms
+abbrev pub goes_behind : List Term → Option ℕ → Option ℕ → Bool
+goes_behind ts a b = are_symbols a b && nat_le (next_place 0 ts) (place_of a b)
+
 -- the term can stand behind the others
 abbrev pub can_follow : List Term → Option ℕ → Option ℕ → ℕ → Bool
-can_follow ts a b c = are_symbols a b && nat_le (next_place 0 ts) (place_of a b) && nat_le 1 c && nat_le c greatest_coefficient
+can_follow ts a b c = goes_behind ts a b && nat_le 1 c && nat_le c greatest_coefficient
 
 -- the polynomial with a term behind the others, if it can stand there
 abbrev pub with_term : List Term → Option ℕ → Option ℕ → ℕ → Option (List Term)

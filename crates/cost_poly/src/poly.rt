@@ -82,6 +82,13 @@ impl Poly {
         }
     }
 
+    /// A term of the product of `a` and `b` could stand behind the last one.
+    pub fn goes_behind(&self, a: Option<u32>, b: Option<u32>) -> bool
+        ensures { result ≡ polynomial.goes_behind self.now a b }
+    {
+        are_symbols(a, b) && place(a, b) >= self.next
+    }
+
     /// The terms whose coefficient isn't 0, in order.
     pub fn terms(&self) -> &[Term]
         ensures { result.now ≡ self.now }

@@ -1,10 +1,10 @@
 -- Parts that are put behind one another are the whole.
-use Rattle.std.proofs.Common.{◌≡◌, ℕ, ℤ, ◌+◌, ◌-◌, ◌≤◌, List, [], ◌∷◌, ◌++◌, length, take, drop, get_or, replicate, Result, Ok, Err, refl, ap, ◌∙◌, append_assoc, arith}
+use Rattle.std.proofs.Common.{◌≡◌, ℕ, zero, suc, ℤ, ◌+◌, ◌-◌, ◌≤◌, add-one, Some, sym, slice_get, List, [], ◌∷◌, ◌++◌, length, take, drop, get_or, replicate, Result, Ok, Err, refl, ap, ◌∙◌, append_assoc, arith}
 use Rattle.std.specs.Prelude.{OnOk}
 use Rattle.std.specs.List.{flat_map}
 use Rattle.std.specs.Int.{next_multiple_of}
 use Rattle.std.proofs.Math.Seq.{take-length}
-use Rattle.std.proofs.lemmas.List.{take-replicate}
+use Rattle.std.proofs.lemmas.List.{take-replicate, flat_map_more}
 use Rattle.rup_base.specs.declared.no_memory.NoMemory.{NoMemory}
 use Rattle.side_certs.specs.LinearForm.{LinearForm}
 use Rattle.cost_poly.specs.declared.term.Term.{Term}
@@ -58,3 +58,15 @@ pub numbers_are : (i : Image) (offset : ℕ) (code tables : List ℕ) (params re
     → params ≡ length i.params → requires_ ≡ length i.requires_ → rets ≡ length i.rets → bound ≡ i.bound
     → i.version ∷ (offset + length code + length tables) ∷ offset ∷ length code ∷ length tables ∷ i.entry ∷ i.stack ∷ params ∷ requires_ ∷ rets ∷ length bound ∷ [] ≡ spec.fixed_numbers i
 numbers_are i offset code tables params requires_ rets bound a b c d e f g = rw (a, b, c, d, e, f, g) refl
+
+take_next : {A : Type 0} (xs : List A) (k : ℕ) (x : A) → slice_get xs k ≡ Some x → take (suc k) xs ≡ take k xs ++ x ∷ []
+take_next [] k x e = absurd (cc)
+take_next (y ∷ ys) zero x e = let same : y ≡ x = cc in rw same refl
+take_next (y ∷ ys) (suc k) x e = ap (λ (zs : List _). y ∷ zs) (take_next ys k x e)
+
+-- one more term is put behind those before it
+pub put_next : (ts : List (ℕ × ℤ)) (k : ℕ) (t : ℕ × ℤ) (old out new : List ℕ) → slice_get ts k ≡ Some t → out ≡ old ++ flat_map spec.form_term (take k ts) → new ≡ out ++ spec.form_term t
+    → new ≡ old ++ flat_map spec.form_term (take (k + 1) ts)
+put_next ts k t old out new is so_far put =
+    put ∙ ap (λ (x : List ℕ). x ++ spec.form_term t) so_far ∙ flat_map_more spec.form_term old (take k ts) t
+    ∙ ap (λ (x : List (ℕ × ℤ)). old ++ flat_map spec.form_term x) (rw add-one (sym (take_next ts k t is)))

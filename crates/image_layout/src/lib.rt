@@ -2,9 +2,11 @@
 #![tactic(auto)]
 
 mod image;
+mod reading;
 mod writing;
 
 pub use image::Image;
+pub use reading::read_image;
 pub use writing::write_image;
 
 #[cfg(test)]

@@ -14,7 +14,7 @@ use std::alloc::Global;
 const MAGIC: &[u8] = b"RUP1";
 
 /// The number that stands for no symbol and for a scalar.
-const NONE: u32 = u32::MAX;
+pub(crate) const NONE: u32 = u32::MAX;
 
 /// The length of the fields before the lists, in bytes.
 const FIXED: usize = 48;
@@ -141,23 +141,21 @@ fn put_requirement(out: &mut Text, form: &Form) -> Result<(), NoMemory>
     ensures { OnOk result (out.new ≡ out.old ++ spec.requirement form.now) }
 {
     put_long(out, form.constant_part())?;
-    put_length(out, form.terms().len())?;
-    put_terms(out, form.terms())
+    put_number(out, form.terms())?;
+    put_terms(out, form)
 }
 
-fn put_terms(out: &mut Text, terms: &[(u32, i64)]) -> Result<(), NoMemory>
-    ensures { OnOk result (out.new ≡ out.old ++ flat_map spec.form_term terms.now) }
+fn put_terms(out: &mut Text, form: &Form) -> Result<(), NoMemory>
+    ensures { OnOk result (out.new ≡ out.old ++ flat_map spec.form_term form.now.terms) }
 {
-    let mut left = terms;
-    'terms: while let [first, rest @ ..] = left {
-        put_form_term(out, first)?;
-        left = rest;
+    for k in 0..form.terms() {
+        put_form_term(out, form.term_at(k))?;
     }
     Ok(())
 }
 
-fn put_form_term(out: &mut Text, term: &(u32, i64)) -> Result<(), NoMemory>
-    ensures { OnOk result (out.new ≡ out.old ++ spec.form_term term.now) }
+fn put_form_term(out: &mut Text, term: (u32, i64)) -> Result<(), NoMemory>
+    ensures { OnOk result (out.new ≡ out.old ++ spec.form_term term) }
 {
     put_number(out, term.0)?;
     put_long(out, term.1)

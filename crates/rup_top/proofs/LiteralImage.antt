@@ -1,9 +1,10 @@
 -- The image that returns a literal is good for the model, and is written.
-use Rattle.std.proofs.Common.{◌≡◌, ◌≢◌, ℕ, zero, suc, ◌+◌, ◌-◌, ◌*◌, ◌/◌, ◌%◌, ◌^◌, ◌<◌, ◌≤◌, ◌⊎◌, inl, inr, List, [], ◌∷◌, ◌++◌, map, length, Some, slice_get, refl, subst, arith}
-use Rattle.std.specs.Prelude.{sum_by}
+use Rattle.std.proofs.Common.{◌≡◌, ◌≢◌, ℕ, zero, suc, ◌+◌, ◌-◌, ◌*◌, ◌/◌, ◌%◌, ◌^◌, ◌<◌, ◌≤◌, ◌⊎◌, inl, inr, List, [], ◌∷◌, ◌++◌, map, length, Some, slice_get, Result, Ok, Err, refl, sym, ap, ◌∙◌, subst, arith}
+use Rattle.std.specs.Prelude.{sum_by, IfOk}
 use Rattle.std.specs.List.{AllByRecursion}
 use Rattle.std.proofs.lemmas.Bool.{cases_lt}
 use Rattle.rup_base.specs.declared.arg.Arg.{Arg}
+use Rattle.rup_base.specs.declared.no_memory.NoMemory.{NoMemory}
 use Rattle.rv_code.specs.declared.fields.Imm12.{Imm12}
 use Rattle.rv_code.specs.declared.fields.Imm20.{Imm20}
 use Rattle.rv_code.specs.declared.instruction.Instr.TheVariants.{Lui, Jalr, Lw, Sw, Addi}
@@ -13,7 +14,8 @@ use Rattle.rv_machine.specs.State.{State, register, number_at}
 use Rattle.rup_top.specs.declared.literal_model.LiteralModel.{LiteralModel}
 use Rattle.rup_top.specs.declared.derivation.Derivation.{Derivation}
 use Rattle.rup_top.specs.declared.derivation.Node.{Node}
-use Rattle.rup_top.specs.Image.{Image, Layout}
+use Rattle.image_layout.specs.declared.image.Image.{Image}
+use Rattle.image_layout.specs.Spelling.{Layout, IsWithinLimits}
 use Rattle.rup_top.specs.Ready.{Within, Ready, image_range}
 use Rattle.rup_top.specs.Good.{IsSaved, IsUnderWay, Returns, Good}
 use Rattle.rup_top.specs.Derivation.{Instance, AreInstances, node_weight}
@@ -117,15 +119,43 @@ weight_of_instances (n ∷ []) are = absurd are
 weight_of_instances (n ∷ (k ∷ [])) are = rw (are.0, are.2)
 weight_of_instances (n ∷ (k ∷ (m ∷ ns))) are = absurd are
 
--- the bytes are a header that is right for any code of this length, and then code that is good for the model
-pub written : (m : LiteralModel) (header code empty front bytes : List ℕ) → length code ≡ 28 → ((any : List ℕ) → length any ≡ 28 → Layout (image_with any) (header ++ any)) → Good m (image_with code) → empty ≡ [] → front ≡ empty ++ header → bytes ≡ front ++ code → (d : Derivation) → Instance m d → Written m d bytes
-written m header code empty front bytes size layout good empty_is front_is bytes_are d instance =
+pub within : (code : List ℕ) → length code ≡ 28 → IsWithinLimits (image_with code)
+within code size = record {
+  version_is = refl;
+  code_whole = rw size refl;
+  code_some = omega (arith, size);
+  code_most = omega (arith, size);
+  tables_most = omega arith;
+  entry_whole = refl;
+  entry_from = omega arith;
+  entry_below = omega (arith, size);
+  stack_whole = refl;
+  stack_most = omega arith;
+  params_fit = tt;
+  registers_most = omega arith;
+  requires_most = omega arith;
+  requires_fit = tt;
+  rets_fit = tt;
+  bound_fits = (tt, omega arith, omega arith, omega arith, tt);
+}
+
+pub image_within : (code other : List ℕ) (i : Image) → length code ≡ 28 → other ≡ code → i ≡ image_with other → IsWithinLimits i
+image_within code other i size same is = subst IsWithinLimits (sym (is ∙ ap image_with same)) (within code size)
+
+-- the bytes are the layout of code that is good for the model, and of what is around it
+written : (m : LiteralModel) (code other bytes : List ℕ) (i : Image) → length code ≡ 28 → Good m (image_with code) → other ≡ code → i ≡ image_with other → Layout i bytes → (d : Derivation) → Instance m d → Written m d bytes
+written m code other bytes i size good same is layout d instance =
     let five = weight_of_instances d.nodes instance.nodes_are in
     record {
       image = image_with code;
-      layout = rw (bytes_are, front_is, empty_is) (layout code size);
+      layout = subst (λ (x : Image). Layout x bytes) (is ∙ ap image_with same) layout;
       version_is = refl;
       bound_is = rw five;
       code_size = rw five (omega (arith, size));
       good = good;
     }
+
+pub written_if : (m : LiteralModel) (code other : List ℕ) (i : Image) (r : Result (List ℕ) NoMemory) → length code ≡ 28 → Good m (image_with code) → other ≡ code → i ≡ image_with other → IfOk r (λ bytes. Layout i bytes)
+    → IfOk r (λ bytes. (d : Derivation) → Instance m d → Written m d bytes)
+written_if m code other i (Ok bytes) size good same is layout = λ d instance. written m code other bytes i size good same is layout d instance
+written_if m code other i (Err e) size good same is layout = tt

@@ -4,7 +4,8 @@ use Rattle.std.proofs.lemmas.List.{length-replicate}
 use Rattle.std.specs.Int.{w32, to_le_bytes}
 use Rattle.rv_machine.specs.State.{Bytes, number_at}
 use Rattle.rv_machine.proofs.Memory.{number_at_four}
-use Rattle.rup_top.specs.Image.{Image, lists, fixed_fields, header_length, code_offset, spelling}
+use Rattle.image_layout.specs.declared.image.Image.{Image}
+use Rattle.image_layout.specs.Spelling.{lists, fixed_fields, header_length, code_offset, spelling}
 use Rattle.rup_top.specs.Literal.{bytes_of}
 use Rattle.rup_top.specs.Ready.{Stands}
 

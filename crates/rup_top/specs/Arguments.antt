@@ -6,7 +6,8 @@ use Rattle.rup_base.specs.declared.arg.Kind.{Kind}
 use Rattle.rup_base.specs.declared.arg.Kind.TheVariants as kind
 use Rattle.rup_base.specs.declared.arg.Arg.{Arg}
 use Rattle.rup_base.specs.declared.arg.Arg.TheVariants as arg
-use Rattle.rup_top.specs.Image.{Form, Term}
+use Rattle.side_certs.specs.LinearForm.{LinearForm}
+use Rattle.cost_poly.specs.declared.term.Term.{Term}
 
 -- an array has its fixed number of elements, or, where its length is named, fewer than 2^32
 abbrev pub HasLength : Option ℕ → ℕ → Type 0
@@ -40,11 +41,11 @@ abbrev pub terms_value : List ℕ → List (ℕ × ℤ) → ℤ
 terms_value values [] = pos 0
 terms_value values (t ∷ ts) = t.1 *ℤ pos (slice_index values t.0) +ℤ terms_value values ts
 
-abbrev pub form_value : List ℕ → Form → ℤ
+abbrev pub form_value : List ℕ → LinearForm → ℤ
 form_value values f = f.constant +ℤ terms_value values f.terms
 
 -- a requirement holds where its form is at least 0
-abbrev pub Holds : List ℕ → Form → Type 0
+abbrev pub Holds : List ℕ → LinearForm → Type 0
 Holds values f = pos 0 ≤ℤ form_value values f
 
 -- the value of a bound

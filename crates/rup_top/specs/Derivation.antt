@@ -11,7 +11,8 @@ use Rattle.rup_top.specs.declared.derivation.Rule.{Rule}
 use Rattle.rup_top.specs.declared.derivation.Rule.TheVariants.{SLet, ELit}
 use Rattle.rup_top.specs.declared.derivation.Node.{Node}
 use Rattle.rup_top.specs.declared.derivation.Derivation.{Derivation}
-use Rattle.rup_top.specs.Image.{Term, greatest_number}
+use Rattle.side_certs.specs.LinearForm.{greatest_number}
+use Rattle.cost_poly.specs.declared.term.Term.{Term}
 
 -- ---- The file: an object of exactly the members block, deriv, model and nodes.
 

@@ -8,7 +8,8 @@ use Rattle.rup_base.specs.declared.arg.Arg.TheVariants as arg
 use Rattle.rv_machine.specs.State.{Bytes, State, register}
 use Rattle.rv_machine.specs.Step.{after}
 use Rattle.rup_top.specs.declared.literal_model.LiteralModel.{LiteralModel}
-use Rattle.rup_top.specs.Image.{Image, Form, registers_of}
+use Rattle.image_layout.specs.declared.image.Image.{Image}
+use Rattle.image_layout.specs.Spelling.{registers_of}
 use Rattle.rup_top.specs.Arguments.{array_bytes, symbol_values, bound_value}
 use Rattle.rup_top.specs.Model.{parameters, requirements, results, value}
 use Rattle.rup_top.specs.Ready.{Range, Within, Stands, image_range, stack_range, array_range, Ready}

@@ -1,4 +1,3 @@
-pub mod Image
 pub mod Arguments
 pub mod Model
 pub mod Ready

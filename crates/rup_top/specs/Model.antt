@@ -6,7 +6,7 @@ use Rattle.rup_base.specs.declared.arg.Kind.{Kind}
 use Rattle.rup_base.specs.declared.arg.Arg.{Arg}
 use Rattle.rup_base.specs.declared.arg.Arg.TheVariants as arg
 use Rattle.rup_top.specs.declared.literal_model.LiteralModel.{LiteralModel}
-use Rattle.rup_top.specs.Image.{Form}
+use Rattle.side_certs.specs.LinearForm.{LinearForm}
 use Rattle.rup_top.specs.Arguments.{AllFit, Holds, symbol_values}
 
 -- the canonical spelling: one space between forms, none beside a parenthesis's inside, the number in decimal, one line feed at the end
@@ -29,7 +29,7 @@ pub record Spells (bytes : List ℕ) (m : LiteralModel) : Type 0 where
 abbrev pub parameters : LiteralModel → List Kind
 parameters m = []
 
-abbrev pub requirements : LiteralModel → List Form
+abbrev pub requirements : LiteralModel → List LinearForm
 requirements m = []
 
 -- a result is the number of its array parameter, or none for a scalar

@@ -8,7 +8,8 @@ use Rattle.rup_base.specs.declared.arg.Arg.{Arg}
 use Rattle.rup_base.specs.declared.arg.Arg.TheVariants as arg
 use Rattle.rv_machine.specs.State.{Bytes, State, register}
 use Rattle.rup_top.specs.declared.literal_model.LiteralModel.{LiteralModel}
-use Rattle.rup_top.specs.Image.{Image, image_length, spelling, registers_of}
+use Rattle.image_layout.specs.declared.image.Image.{Image}
+use Rattle.image_layout.specs.Spelling.{image_length, spelling, registers_of}
 use Rattle.rup_top.specs.Arguments.{array_bytes}
 use Rattle.rup_top.specs.Model.{Meets}
 

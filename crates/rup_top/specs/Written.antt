@@ -2,7 +2,8 @@
 use Rattle.std.specs.Prelude.{◌≡◌, ℕ, ◌*◌, ◌≤◌, List, length}
 use Rattle.rup_top.specs.declared.literal_model.LiteralModel.{LiteralModel}
 use Rattle.rup_top.specs.declared.derivation.Derivation.{Derivation}
-use Rattle.rup_top.specs.Image.{Image, Layout}
+use Rattle.image_layout.specs.declared.image.Image.{Image}
+use Rattle.image_layout.specs.Spelling.{Layout}
 use Rattle.rup_top.specs.Derivation.{weight, bound}
 use Rattle.rup_top.specs.Good.{Good}
 

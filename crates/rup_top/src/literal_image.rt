@@ -5,12 +5,13 @@ ghost use Rattle.rup_top.specs.declared.derivation.Derivation.{Derivation as Der
 ghost use Rattle.rup_top.specs.Derivation.{Instance};
 ghost use Rattle.rup_top.specs.declared.literal_model.LiteralModel.{LiteralModel as Literal};
 ghost use Rattle.rup_top.specs.Good.{Good};
-ghost use Rattle.rup_top.specs.Image.{Layout};
-ghost use Rattle.rup_top.specs.Literal.{bytes_of, image_with};
+ghost use Rattle.rup_top.specs.Literal.{bytes_of, constant_bound, image_with};
 ghost use Rattle.rup_top.specs.Written.{Written};
 
 use crate::literal_model::LiteralModel;
-use rup_base::{NoMemory, Text};
+use cost_poly::Poly;
+use image_layout::{Image, write_image};
+use rup_base::{List, NoMemory, Text};
 use rv_code::{Imm12, Imm20, Instr, Reg, encode};
 use std::alloc::Global;
 
@@ -18,54 +19,45 @@ use std::alloc::Global;
 const FRAME: u32 = 16;
 
 /// The most steps that a call takes, by the weights of the entry, a `let` and a literal.
-const BOUND: u32 = 48 + 2 + 3;
+const BOUND: u64 = 48 + 2 + 3;
+
+/// The offset of the code: the header's 48 bytes, one result and one term of the bound, rounded up to 16.
+const CODE_OFFSET: u32 = 80;
 
 /// The image that returns the model's literal, for whichever derivation of the model is handed in.
 pub(crate) fn literal_image(alloc: Global, model: &LiteralModel) -> Result<Text, NoMemory>
     ensures { IfOk result (λ bytes. (d : Derived) → Instance model.now d → Written model.now d bytes) }
 {
-    let mut image = Text::new(alloc);
-    put_numbers(&mut image, &header())?;
-    put_code(&mut image, &literal_code(model.value))?;
-    Ok(image)
+    let mut code = Text::new(alloc);
+    put_code(&mut code, &literal_code(model.value))?;
+    let image = image_around(alloc, code)?;
+    write_image(alloc, &image)
 }
 
-/// The numbers before the code, of four bytes each: with the code behind them, they are the image.
-fn header() -> [u32; 20]
-    ensures { (code : List ℕ) → length code ≡ 28 → Layout (image_with code) (bytes_of result ++ code) }
+/// The code, and around it no parameters, no requirements, one scalar result and no tables.
+fn image_around(alloc: Global, code: Text) -> Result<Image, NoMemory>
+    ensures { IfOk result (λ i. i ≡ image_with code) }
 {
-    let code_offset = 80;
-    let code_length = 28;
-    let entry = code_offset;
-    let scalar = u32::MAX;
-    let no_symbol = u32::MAX;
-    [
-        // the bytes 52 55 50 31, and the version
-        0x3150_5552,
-        1,
-        code_offset + code_length,
-        code_offset,
-        code_length,
-        // no tables
-        0,
-        entry,
-        FRAME,
-        // no parameters, no requirements, one result, and a bound of one term
-        0,
-        0,
-        1,
-        1,
-        scalar,
-        // the constant term, whose coefficient has eight bytes
-        no_symbol,
-        no_symbol,
-        BOUND,
-        0,
-        // zeros up to the code
-        0,
-        0,
-        0,
-    ]
+    let mut rets = List::new(alloc);
+    rets.push(None)?;
+    Ok(Image {
+        version: 1,
+        params: List::new(alloc),
+        requires_: List::new(alloc),
+        rets,
+        bound: literal_bound(),
+        entry: CODE_OFFSET,
+        stack: FRAME,
+        code,
+        tables: Text::new(alloc),
+    })
+}
+
+/// The bound, which no symbol changes.
+fn literal_bound() -> Poly
+    ensures { result ≡ constant_bound 53 }
+{
+    Poly::term(None, None, BOUND).unwrap()
 }
 
 /// Takes the frame, puts the literal into its slot, makes the slot the result, gives the frame back and returns.
@@ -114,18 +106,6 @@ fn literal_code(value: u32) -> [Instr; 7]
             imm: Imm12::from_bits(0),
         },
     ]
-}
-
-/// Puts each number behind the image's bytes, little endian.
-fn put_numbers(image: &mut Text, numbers: &[u32]) -> Result<(), NoMemory>
-    ensures { OnOk result (image.new ≡ image.old ++ bytes_of numbers.now) }
-{
-    let mut left = numbers;
-    while let [first, rest @ ..] = left {
-        image.extend_from_slice(&first.to_le_bytes())?;
-        left = rest;
-    }
-    Ok(())
 }
 
 /// Puts the word of each instruction behind the image's bytes, little endian.

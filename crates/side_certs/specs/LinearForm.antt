@@ -1,5 +1,5 @@
 -- Linear forms over symbols: what they are, their limits, and their sum, difference and multiples over the whole numbers.
-use Rattle.std.specs.Prelude.{ℕ, ◌^◌, Bool, true, ◌&&◌, ◌||◌, List, [], ◌∷◌, ◌++◌, length, Option, Some, None, ℤ, pos, negsuc, ◌+ℤ◌, ◌*ℤ◌, nat_abs, nat_le, nat_lt, nat_eq, if◌then◌else◌}
+use Rattle.std.specs.Prelude.{ℕ, ◌+◌, ◌^◌, Bool, true, not, ◌&&◌, ◌||◌, List, [], ◌∷◌, ◌++◌, length, Option, Some, None, ℤ, pos, negsuc, ◌+ℤ◌, ◌*ℤ◌, nat_abs, nat_le, nat_lt, nat_eq, if◌then◌else◌}
 use Rattle.std.specs.Ordering.{int_eq}
 
 -- a constant, and a coefficient for each symbol, in the order of the symbols
@@ -25,6 +25,11 @@ all_small (t ∷ ts) = is_small t.1 && all_small ts
 -- the form passes no limit
 abbrev pub is_within : LinearForm → Bool
 is_within f = is_small f.constant && nat_le (length f.terms) most_terms && all_small f.terms
+
+-- the symbols rise, the first from the least on, and no coefficient is 0
+abbrev pub rises_from : ℕ → List (ℕ × ℤ) → Bool
+rises_from least [] = true
+rises_from least (t ∷ ts) = nat_le least t.0 && not (int_eq t.1 (pos 0)) && rises_from (t.0 + 1) ts
 
 -- the form, if it passes no limit
 abbrev pub within : LinearForm → Option LinearForm

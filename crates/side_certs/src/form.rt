@@ -1,5 +1,5 @@
 //! A linear form: a constant, and at most 16 symbols with a coefficient each.
-ghost use Rattle.std.specs.Prelude.{◌≡◌, [], ◌∷◌, ◌++◌, ◌+◌, ◌<◌, ◌≤◌, ◌+ℤ◌, ◌*ℤ◌, ◌↔◌, List, ℕ, ℤ, pos, length, true, false, slice_get, IsTrue, MatchOption, if◌then◌else◌, ◌&&◌, nat_lt};
+ghost use Rattle.std.specs.Prelude.{◌≡◌, [], ◌∷◌, ◌++◌, ◌+◌, ◌<◌, ◌≤◌, ◌+ℤ◌, ◌*ℤ◌, ◌↔◌, List, ℕ, ℤ, pos, length, true, false, slice_get, Some, IsTrue, MatchOption, if◌then◌else◌, ◌&&◌, nat_lt};
 ghost use Rattle.std.specs.Ordering.{int_eq};
 ghost use Rattle.side_certs.specs.LinearForm as linear;
 
@@ -11,7 +11,8 @@ const MOST_TERMS: usize = 16;
 /// The greatest magnitude of a constant and of a coefficient.
 const GREATEST_NUMBER: u128 = 1 << 40;
 
-/// A constant and at most 16 terms, each a symbol with its coefficient. No number has a magnitude over 2^40.
+/// A constant and at most 16 terms, each a symbol with its coefficient. The symbols rise, no coefficient is 0 and no
+/// number has a magnitude over 2^40.
 #[derive(Debug, Drop)]
 pub struct Form {
     constant: i64,
@@ -21,13 +22,13 @@ pub struct Form {
 
 impl Model for Form {
     ghost use Rattle.std.specs.Prelude.{◌≡◌, ◌≤◌, take, true};
-    ghost use Rattle.side_certs.specs.LinearForm.{LinearForm, is_within};
+    ghost use Rattle.side_certs.specs.LinearForm.{LinearForm, is_within, rises_from};
 
     ghost Value = { LinearForm };
 
     ghost view = { λ f. record { constant = f.constant; terms = take f.count f.slots } };
 
-    ghost invariant = { λ f. (f.count ≤ 16) × (is_within (record { constant = f.constant; terms = take f.count f.slots }) ≡ true) };
+    ghost invariant = { λ f. (f.count ≤ 16) × (is_within (record { constant = f.constant; terms = take f.count f.slots }) ≡ true) × (rises_from 0 (take f.count f.slots) ≡ true) };
 }
 
 impl Form {
@@ -58,19 +59,21 @@ impl Form {
         self.constant
     }
 
-    /// The symbols with their coefficients, in the order of the symbols.
-    pub fn terms(&self) -> &[(u32, i64)]
-        ensures terms { result.now ≡ self.now.terms }
-        ensures count { length result.now ≤ 16 }
+    /// The number of symbols, at most 16.
+    pub fn terms(&self) -> u32
+        ensures count { result ≡ length self.now.terms }
+        ensures limits { linear.is_within self.now ≡ true }
+        ensures rising { linear.rises_from 0 self.now.terms ≡ true }
     {
-        &self.slots[..self.count]
+        self.all_terms().len() as u32
     }
 
-    /// The term of this number, from 0. None where there are no more terms.
-    pub fn term_at(&self, index: usize) -> Option<(u32, i64)>
-        ensures { result ≡ slice_get self.now.terms index }
+    /// The symbol of this number, from 0 in the order of symbols, and its coefficient.
+    pub fn term_at(&self, k: u32) -> (u32, i64)
+        requires { k < length self.now.terms }
+        ensures { slice_get self.now.terms k ≡ Some result }
     {
-        self.terms().get(index).copied()
+        self.slots[k as usize]
     }
 
     /// The sum of both forms. None exactly where it passes a limit.
@@ -78,8 +81,8 @@ impl Form {
         ensures { result ≡ linear.within (linear.plus self.now other.now) }
     {
         let mut sum = Form::start(total(self.constant, other.constant))?;
-        let mut left = self.terms();
-        let mut right = other.terms();
+        let mut left = self.all_terms();
+        let mut right = other.all_terms();
         'terms: loop {
             match first(left, right) {
                 None => return sum.done(),
@@ -107,7 +110,7 @@ impl Form {
         ensures { result ≡ linear.within (linear.times k self.now) }
     {
         let mut multiple = Form::start(product(k, self.constant))?;
-        let mut left = self.terms();
+        let mut left = self.all_terms();
         'terms: loop {
             match first_multiple(k, left) {
                 None => return multiple.done(),
@@ -121,8 +124,18 @@ impl Form {
         }
     }
 
+    fn all_terms(&self) -> &[(u32, i64)]
+        ensures terms { result.now ≡ self.now.terms }
+        ensures count { length result.now ≤ 16 }
+        ensures limits { linear.is_within self.now ≡ true }
+        ensures rising { linear.rises_from 0 self.now.terms ≡ true }
+    {
+        &self.slots[..self.count]
+    }
+
     /// Puts a term behind the last one, where it has room; a coefficient 0 leaves nothing to put.
     fn push(&mut self, symbol: u32, coefficient: i128) -> bool
+        requires { linear.rises_from 0 (self.old.terms ++ linear.keep symbol coefficient []) ≡ true }
         ensures room { result ≡ linear.has_room self.old coefficient }
         ensures put { self.new ≡ (if result then linear.put_behind self.old symbol coefficient else self.old) }
     {

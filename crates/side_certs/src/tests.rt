@@ -28,11 +28,9 @@ fn sums_are_in_the_order_of_symbols(rt: HostRuntime) -> Result<(), Fail> {
     )?;
     let both = sum(&left, &right)?;
     assert_eq!(rt; both.constant_part(), -2, "the constant of the sum");
-    assert_eq!(rt;
-        both.terms(),
-        [(1, 2), (2, 1)].as_slice(),
-        "symbol 5 has gone"
-    );
+    assert_eq!(rt; both.terms(), 2, "symbol 5 has gone");
+    assert_eq!(rt; both.term_at(0), (1, 2), "the first term of the sum");
+    assert_eq!(rt; both.term_at(1), (2, 1), "the second term of the sum");
     let difference = left
         .sub(&right)
         .ok_or("the difference is within the limits")?;
@@ -41,15 +39,12 @@ fn sums_are_in_the_order_of_symbols(rt: HostRuntime) -> Result<(), Fail> {
         16,
         "the constant of the difference"
     );
-    assert_eq!(rt;
-        difference.terms(),
-        [(1, -6), (2, -1), (5, 6)].as_slice(),
-        "the terms of the difference"
-    );
-    assert_eq!(rt; difference.term_at(2), Some((5, 6)), "its last term");
-    assert_eq!(rt; difference.term_at(3), None, "no more terms");
+    assert_eq!(rt; difference.terms(), 3, "the terms of the difference");
+    assert_eq!(rt; difference.term_at(0), (1, -6), "its first term");
+    assert_eq!(rt; difference.term_at(1), (2, -1), "its second term");
+    assert_eq!(rt; difference.term_at(2), (5, 6), "its last term");
     let nothing = left.scale(0).ok_or("0 is within the limits")?;
-    assert!(rt; nothing.terms().is_empty(), "0 times a form has no terms");
+    assert!(rt; nothing.terms() == 0, "0 times a form has no terms");
     Ok(())
 }
 
@@ -73,7 +68,7 @@ fn limits(rt: HostRuntime) -> Result<(), Fail> {
     for s in 0..16 {
         many = sum(&many, &Form::symbol(s))?;
     }
-    assert_eq!(rt; many.terms().len(), 16, "sixteen symbols");
+    assert_eq!(rt; many.terms(), 16, "sixteen symbols");
     assert!(rt;
         many.add(&Form::symbol(16)).is_none(),
         "a seventeenth symbol"

@@ -1,11 +1,8 @@
-use Rattle.std.proofs.Common.{◌≡◌, ◌++◌, length}
+use Rattle.std.proofs.Common.{◌≡◌, ◌++◌, take}
 use Rattle.std.specs.List.{flat_map}
 use Rattle.image_layout.specs.Spelling as spec
 use Rattle.image_layout.proofs.writing.put_terms.Given as goal
 
--- what is left completes the bytes
-abbrev pub invariant-terms : goal.invariant-terms
-invariant-terms l = l.out ++ flat_map spec.form_term l.left ≡ l.fn.out ++ flat_map spec.form_term l.terms
-
-abbrev pub decreases-terms : goal.decreases-terms
-decreases-terms l = length l.left
+-- the terms so far are put
+abbrev pub invariant-loop-k : goal.invariant-loop-k
+invariant-loop-k l = l.out ≡ l.fn.out ++ flat_map spec.form_term (take l.k l.form.terms)

@@ -1,9 +1,9 @@
-use Rattle.std.proofs.Common.{◌≡◌, ◌≤◌, length, sym, ◌∙◌, arith, true, false, pos, length-take}
+use Rattle.std.proofs.Common.{◌≡◌, ◌≤◌, ◌++◌, [], take, subst, length, sym, ◌∙◌, arith, true, false, pos, length-take}
 use Rattle.std.specs.Int.{w64, w128}
 use Rattle.std.specs.Ordering.{int_eq}
 use Rattle.std.proofs.lemmas.Int.{to_z-of_z}
-use Rattle.side_certs.specs.LinearForm.{is_small}
-use Rattle.side_certs.proofs.Terms.{full, within_more, small_fits}
+use Rattle.side_certs.specs.LinearForm.{LinearForm, is_small, rises_from, keep}
+use Rattle.side_certs.proofs.Terms.{full, within_more, rises_more, small_fits}
 use Rattle.side_certs.proofs.form.Form.push.Goals as goal
 
 pub returns-then-self-eq-MOST_TERMS-clause-room : goal.returns-then-self-eq-MOST_TERMS-clause-room
@@ -20,5 +20,11 @@ invariant_of-self c =
     let below : c.self.inside.count ≤ 16 = c.self.invariant.0 in
     let same = to_z-of_z w128 c.args.coefficient c.ranges.coefficient in
     let small : is_small c.args.coefficient ≡ true = rw same at (sym c.is_small.ensures ∙ c.if-not-is_small.false) in
-    let stored = to_z-of_z w64 c.args.coefficient (small_fits c.args.coefficient small) in
-    (omega arith, rw (same, stored) (within_more c.self.inside.constant c.self.inside.slots c.self.inside.count (c.args.symbol, c.args.coefficient) slots (omega arith) c.self.invariant.1 small))
+    let not_zero : int_eq c.args.coefficient (pos 0) ≡ false = rw same at (sym c.is_zero.ensures ∙ c.if-is_zero.false) in
+    let rise : rises_from 0 (take c.self.inside.count c.self.inside.slots ++ keep c.args.symbol c.args.coefficient []) ≡ true =
+    subst (λ (f : LinearForm). rises_from 0 (f.terms ++ keep c.args.symbol c.args.coefficient []) ≡ true) (sym c.self.view_is) c.requires in
+    let stored = to_z-of_z w64 c.args.coefficient (small_fits c.args.coefficient small) in (
+      omega arith,
+      rw (same, stored) (within_more c.self.inside.constant c.self.inside.slots c.self.inside.count (c.args.symbol, c.args.coefficient) slots (omega arith) c.self.invariant.1 small),
+      rw (same, stored) (rises_more c.self.inside.slots c.self.inside.count (c.args.symbol, c.args.coefficient) (omega arith) not_zero rise),
+    )

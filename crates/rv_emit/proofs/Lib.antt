@@ -1,3 +1,9 @@
 pub mod Site
 pub mod Bytes
 pub mod Runs
+pub mod Does
+pub mod Places
+pub mod Words
+pub mod Operations
+pub mod Straight
+pub mod Accesses

@@ -49,7 +49,7 @@ pub record IsSet (s u : State) (d v : ℕ) : Type 0 where
 abbrev pub set_reg : State → ℕ → ℕ → State
 set_reg s d v = record { regs = with_register s.regs d v; pc = plus s.pc 4; mem = s.mem }
 
-gives_is : (s : State) (d v : ℕ) → gives s d v ≡ Ok (set_reg s d v)
+pub gives_is : (s : State) (d v : ℕ) → gives s d v ≡ Ok (set_reg s d v)
 unfolding gives
 gives_is s d v = refl
 

@@ -14,6 +14,7 @@ pub record Site : Type 0 where
   pub start : ℕ
   pub code : List Instr
   pub text : List ℕ
+  pub tables : List (List ℕ)
   pub base : ℕ
   pub slots : ℕ
   pub vars : ℕ
@@ -34,6 +35,13 @@ abbrev pub IsValid : Site → At → Type 0
 IsValid l (Slot j) = j < l.slots
 IsValid l (Register r) = l.held r ≡ true
 
+-- a table stands at a distance from the start, within the image
+pub record TableAt (l : Site) (m : State) (far : ℕ) (bytes : List ℕ) : Type 0 where
+  pub aligned : far % 4 ≡ 0
+  pub behind : 4 * length l.code ≤ far
+  pub inside : (a b : ℕ) → slice_get bytes a ≡ Some b → far + a < 4 * length l.code + length l.text
+  pub stands : (a b : ℕ) → slice_get bytes a ≡ Some b → get m.mem (l.start + far + a) ≡ Some b
+
 -- what is so at the entry m, and never changes
 pub record Sound (l : Site) (m : State) : Type 0 where
   pub aligned : l.start % 4 ≡ 0
@@ -44,7 +52,7 @@ pub record Sound (l : Site) (m : State) : Type 0 where
   pub few : l.slots ≤ 512
   pub apart : (a : ℕ) → InImage l a → InFrame l a → ⊥
   pub stands : (k : ℕ) (i : Instr) → slice_get l.code k ≡ Some i → number_at m.mem 4 (l.start + 4 * k) ≡ Some (word_of i)
-  pub tables_stand : (k b : ℕ) → slice_get l.text k ≡ Some b → get m.mem (l.start + 4 * length l.code + k) ≡ Some b
+  pub table : (k : ℕ) (bytes : List ℕ) → slice_get l.tables k ≡ Some bytes → TableAt l m (l.far k) bytes
   pub mapped : (a : ℕ) → InFrame l a → IsSome (get m.mem a)
   pub from : (r : ℕ) → l.held r ≡ true → 8 ≤ r
   pub to : (r : ℕ) → l.held r ≡ true → r < 32

@@ -1,5 +1,5 @@
 -- Loads, look-ups in tables and stores run as they mean.
-use Rattle.std.proofs.Common.{◌≡◌, ◌≢◌, ℕ, ◌+◌, ◌-◌, ◌*◌, ◌/◌, ◌%◌, ◌^◌, ◌<◌, ◌≤◌, List, [], ◌∷◌, ◌++◌, length, Result, Ok, Err, Option, Some, None, IsSome, is_some, slice_get, refl, sym, ap, ◌∙◌, subst, arith}
+use Rattle.std.proofs.Common.{◌≡◌, ◌≢◌, ℕ, ◌+◌, ◌-◌, ◌*◌, ◌/◌, ◌%◌, ◌^◌, ◌<◌, ◌≤◌, List, [], ◌∷◌, ◌++◌, length, Result, Ok, Err, Option, Some, None, IsSome, is_some, slice_get, nat_eq, refl, sym, ap, ◌∙◌, subst, arith}
 use Rattle.std.specs.FinMap.{get}
 use Rattle.bed_syntax.specs.declared.operation.Size.{Size}
 use Rattle.bed_syntax.specs.declared.operation.Size.TheVariants as size
@@ -21,7 +21,7 @@ use Rattle.rv_machine.specs.Effect.{effect}
 use Rattle.rv_machine.specs.Step.{gives}
 use Rattle.rv_machine.proofs.Memory.{get-with_number_other, mapped-with_number, mapped_before_with_number, number_at-with_number_other, is_some-number_at}
 use Rattle.rv_emit.specs.Code.{fetch, save, load_at, store_to, upper, ahead}
-use Rattle.rv_emit.proofs.Bytes.{Seen, seen-with_number, bytes-with_number, Number, Placed, Found, found_by, load_found, Stored, store_found, stored_number}
+use Rattle.rv_emit.proofs.Bytes.{Seen, seen-with_number, bytes-with_number, Number, Placed, Found, found_by, load_found, Stored, store_found, stored_number, tested}
 use Rattle.rv_emit.proofs.Does.{loads_is, stores_is, with_stored, nothing_added, parts_sum}
 use Rattle.rv_emit.proofs.Site.{Site, InImage, InFrame, IsValid, TableAt, Sound, Memory, Held, Holds, Before}
 use Rattle.rv_emit.proofs.Runs.{Has, HasAll, IsSet, Reaches, same_in_image, next_pc, step_reach, set_reach, given_reach, fuelled_reach, ends_at}
@@ -155,3 +155,43 @@ module _ (l : Site) (m : State) (sound : Sound l m) (w : Weights) (enough : Enou
       let place : k + 1 + 1 + 1 ≡ k + 3 = omega arith in
       step_reach l m sound (f.ticks + 1 + 1) (k + 3) f.mem f.vars (k + 1 + 1) (store_to z) u2 (with_stored u2 (width z) at v) (Ok e) b2 has.1.1.0 (store_does z u2 at v address is2.value found.aligned there)
       (ends_at l m sound (f.ticks + 1 + 1 + 1) (k + 3) (with_stored u2 (width z) at v) e (omega (arith, enough.store)) (subst (λ q. Before l m mem f.vars q (with_stored u2 (width z) at v)) place stands))))))))
+
+  pub table_reach : (k : ℕ) (f : flat.State) (s : State) (z : Size) (x i y : ℕ) → Before l m f.mem f.vars k s → HasAll l.code k (fetch 5 (l.place y) ∷ Auipc (reg 6) (imm20 (upper (ahead (l.far i) (k + 1)))) ∷ Add (reg 5) (reg 5) (reg 6) ∷ load_at z (ahead (l.far i) (k + 1)) ∷ save 5 (l.place x) ∷ []) → x < l.vars → Reaches l m sound f.ticks (k + 5) s (fuelled (λ g. given (get g.vars y) (λ at. given (slice_get l.tables i) (λ bytes. given (entry z bytes at) (λ v. sets w.table x v g)))) f)
+  table_reach k f s z x i y before has below =
+      fuelled_reach l m sound f.ticks (k + 5) s (λ g. given (get g.vars y) (λ at. given (slice_get l.tables i) (λ bytes. given (entry z bytes at) (λ v. sets w.table x v g)))) f (λ n.
+      let g : flat.State = record { fuel = n; ticks = f.ticks; mem = f.mem; vars = f.vars } in
+      given_reach l m sound f.ticks (k + 5) s (get f.vars y) (λ at. given (slice_get l.tables i) (λ bytes. given (entry z bytes at) (λ v. sets w.table x v g))) (λ at first.
+      given_reach l m sound f.ticks (k + 5) s (slice_get l.tables i) (λ bytes. given (entry z bytes at) (λ v. sets w.table x v g)) (λ bytes second.
+      given_reach l m sound f.ticks (k + 5) s (entry z bytes at) (λ v. sets w.table x v g) (λ v third. looked_up n at bytes v first second third))))
+    where
+      looked_up : (n at : ℕ) (bytes : List ℕ) (v : ℕ) → get f.vars y ≡ Some at → slice_get l.tables i ≡ Some bytes → entry z bytes at ≡ Some v → Reaches l m sound f.ticks (k + 5) s (sets w.table x v (record { fuel = n; ticks = f.ticks; mem = f.mem; vars = f.vars }))
+      looked_up n at bytes v first second third =
+          let g : flat.State = record { fuel = n; ticks = f.ticks; mem = f.mem; vars = f.vars } in
+          let r = sets w.table x v g in
+          let table = sound.table i bytes second in
+          let d = ahead (l.far i) (k + 1) in
+          let high = upper d % 1048576 * 4096 in
+          fetch_reach l m sound f.ticks (k + 5) f.mem f.vars k s 5 y at r (omega arith) (omega arith) before has.0 first (λ u1 b1 is1.
+          set_reach l m sound (f.ticks + 1) (k + 5) f.mem f.vars (k + 1) (Auipc (reg 6) (imm20 (upper d))) u1 6 (plus u1.pc high) r (omega arith) (omega arith) b1 has.1.0 refl (λ u2 b2 is2.
+          let holds : register u2.regs 5 ≡ at = is2.others 5 (λ e. omega arith) ∙ is1.value in
+          let sum : effect (Add (reg 5) (reg 5) (reg 6)) u2 ≡ gives u2 5 (plus at (plus u1.pc high)) = rw (holds, is2.value) refl in
+          set_reach l m sound (f.ticks + 1 + 1) (k + 5) f.mem f.vars (k + 1 + 1) (Add (reg 5) (reg 5) (reg 6)) u2 5 (plus at (plus u1.pc high)) r (omega arith) (omega arith) b2 has.1.1.0 sum (λ u3 b3 is3.
+          let found = found_by (λ a. slice_get bytes a) z u3.mem (l.start + l.far i) at v (table_placed l m sound f.mem u3.mem (l.far i) bytes b3.memory table) third in
+          let within = in_image at bytes v second third in
+          let pc_is = b1.pc in
+          let next = has.1.0.next in
+          let behind = table.behind in
+          let small : d < 2 ^ 32 = omega (arith, sound.ends) in
+          let whole : at + (u1.pc + d) ≡ l.start + l.far i + at = omega arith in
+          let address : plus (register u3.regs 5) (extended 2048 (d % 4096)) ≡ l.start + l.far i + at = rw is3.value (address_sum at u1.pc high (extended 2048 (d % 4096)) d (parts_sum d small) (omega (arith, sound.ends)) ∙ whole) in
+          let aligned : (l.start + l.far i + at) % width z ≡ 0 = entry_aligned z (l.start + l.far i) at (omega (arith, sound.aligned, table.aligned)) found.aligned in
+          set_reach l m sound (f.ticks + 1 + 1 + 1) (k + 5) f.mem f.vars (k + 1 + 1 + 1) (load_at z d) u3 5 v r (omega arith) (omega arith) b3 has.1.1.1.0 (load_does z u3 d (l.start + l.far i + at) v address aligned found.number.there) (λ u4 b4 is4.
+          let place : k + 1 + 1 + 1 + 1 + 1 ≡ k + 5 = omega arith in
+          let word : v < 2 ^ 32 = found.number.small b3.memory.bytes in
+          subst (λ q. Reaches l m sound (f.ticks + 1 + 1 + 1 + 1) q u4 r) place (save_reach l m sound (f.ticks + 1 + 1 + 1 + 1) w.table g (k + 1 + 1 + 1 + 1) u4 x v b4 has.1.1.1.1.0 below word is4.value (omega (arith, enough.table)))))))
+        where
+          in_image : (at : ℕ) (bytes : List ℕ) (v : ℕ) → slice_get l.tables i ≡ Some bytes → entry z bytes at ≡ Some v → l.far i + at < 4 * length l.code + length l.text
+          in_image at bytes v second third =
+              let t = tested (nat_eq (at % width z) 0) (word (λ a. slice_get bytes a) z at) v third in
+              let b = first_byte (λ a. slice_get bytes a) z at v t.is in
+              (sound.table i bytes second).inside at b.value b.is

@@ -7,3 +7,7 @@ pub mod Words
 pub mod Operations
 pub mod Straight
 pub mod Accesses
+pub mod Jumps
+pub mod Branches
+pub mod Loops
+pub mod Blocks

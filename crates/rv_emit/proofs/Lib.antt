@@ -11,3 +11,6 @@ pub mod Jumps
 pub mod Branches
 pub mod Loops
 pub mod Blocks
+pub mod Standing
+pub mod Entry
+pub mod Exit

@@ -56,6 +56,7 @@ pub record Sound (l : Site) (m : State) : Type 0 where
   pub mapped : (a : ℕ) → InFrame l a → IsSome (get m.mem a)
   pub from : (r : ℕ) → l.held r ≡ true → 8 ≤ r
   pub to : (r : ℕ) → l.held r ≡ true → r < 32
+  pub not_argument : (r : ℕ) → l.held r ≡ true → 10 ≤ r → 18 ≤ r
   pub valid : (x : ℕ) → x < l.vars → IsValid l (l.place x)
   pub distinct : (x y : ℕ) → x < l.vars → y < l.vars → l.place x ≡ l.place y → x ≡ y
 

@@ -1,2 +1,6 @@
 pub mod Code
 pub mod Fit
+pub mod Tables
+pub mod Whole
+pub mod Ready
+pub mod Returns

@@ -54,7 +54,7 @@ pub record Late (l : Site) (m e : State) (k : ℕ) (s : State) : Type 0 where
   pub others : (r : ℕ) → r ≢ 10 → r ≢ 11 → register s.regs r ≡ register e.regs r
 
 module _ (l : Site) (m : State) (sound : Sound l m) (mem : Bytes) (vars : Vars) (ke : ℕ) (e : State) (ended : Before l m mem vars ke e) where
-  stood_late : (k : ℕ) (s : State) → Late l m e k s → Stood l m sound mem k s
+  pub stood_late : (k : ℕ) (s : State) → Late l m e k s → Stood l m sound mem k s
   stood_late k s late = record { pc = late.pc; memory = subst (λ b. Memory l m mem b) (sym late.mem) ended.memory }
 
   -- what a variable's place gives

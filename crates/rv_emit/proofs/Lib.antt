@@ -14,3 +14,8 @@ pub mod Blocks
 pub mod Standing
 pub mod Entry
 pub mod Exit
+pub mod Leave
+pub mod TableText
+pub mod WordSmall
+pub mod Placed
+pub mod Returned

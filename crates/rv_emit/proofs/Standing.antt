@@ -9,12 +9,12 @@ use Rattle.rv_emit.specs.Ready.{Stands, code_bytes}
 abbrev word_bytes : List ℕ → List ℕ
 word_bytes words = flat_map (to_le_bytes w32) words
 
-slice_get-append_left : (xs ys : List ℕ) (k b : ℕ) → slice_get xs k ≡ Some b → slice_get (xs ++ ys) k ≡ Some b
+pub slice_get-append_left : (xs ys : List ℕ) (k b : ℕ) → slice_get xs k ≡ Some b → slice_get (xs ++ ys) k ≡ Some b
 slice_get-append_left [] ys k b found = absurd (cc)
 slice_get-append_left (x ∷ xs) ys zero b found = found
 slice_get-append_left (x ∷ xs) ys (suc k) b found = slice_get-append_left xs ys k b found
 
-slice_get-append_right : (xs ys : List ℕ) (k : ℕ) → slice_get (xs ++ ys) (length xs + k) ≡ slice_get ys k
+pub slice_get-append_right : (xs ys : List ℕ) (k : ℕ) → slice_get (xs ++ ys) (length xs + k) ≡ slice_get ys k
 slice_get-append_right [] ys k = ap (slice_get ys) (zero-add k)
 slice_get-append_right (x ∷ xs) ys k =
     let next : length (x ∷ xs) + k ≡ suc (length xs + k) = omega arith in

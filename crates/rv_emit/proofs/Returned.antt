@@ -3,6 +3,7 @@ use Rattle.std.proofs.Common.{◌≡◌, ◌≢◌, ℕ, zero, suc, ◌+◌, ◌
 use Rattle.std.specs.List.{AllByRecursion}
 use Rattle.std.specs.FinMap.{get}
 use Rattle.std.proofs.lemmas.Bool.{cases_eq}
+use Rattle.std.proofs.lemmas.List.{length-map}
 use Rattle.bed_syntax.specs.declared.weights.Weights.{Weights}
 use Rattle.bed_meaning.specs.declared.halt.Halt.{Halt}
 use Rattle.flat_lang.specs.State.{Vars}
@@ -32,7 +33,7 @@ use Rattle.rv_emit.proofs.Blocks.{block_runs}
 use Rattle.rv_emit.proofs.Entry.{arguments_reach}
 use Rattle.rv_emit.proofs.Exit.{Is, Stood, leads_stood, Late, Results, results_lead}
 use Rattle.rv_emit.proofs.Leave.{has_all, is_last, Left, leaves}
-use Rattle.rv_emit.proofs.Placed.{Emits, base, here, taken, sound, first_memory, begins, same_arguments}
+use Rattle.rv_emit.proofs.Placed.{Emits, base, here, taken, sound, first_memory, begins, in_stack, same_arguments}
 
 frame_taken : (sp stack : ℕ) → sp < 2 ^ 32 → stack ≤ sp → stack < 2048 → plus sp (extended 2048 ((4096 - stack) % 4096)) ≡ sp - stack
 frame_taken sp stack word fits small = grind arith
@@ -116,6 +117,10 @@ ends_of (Ok g) ticks mem vars done =
     record { g = g; is = refl; ticks_are = ap (λ e. e.0) same; mem_is = ap (λ e. e.1) same; vars_are = ap (λ e. e.2) same }
 ends_of (Err h) ticks mem vars done = absurd (cc)
 
+all_by : (n : ℕ) (xs : List ℕ) → All (λ x. x < n) xs → AllByRecursion (λ x. x < n) xs
+all_by n [] all = tt
+all_by n (x ∷ xs) all = (all 0 0 (omega arith), all_by n xs (λ k d below. all (suc k) d (omega arith)))
+
 -- the body has ended at e after n steps from s
 record Arrived (l : Site) (m s : State) (mem : Bytes) (vars : Vars) (k limit : ℕ) : Type 0 where
   n : ℕ
@@ -185,3 +190,62 @@ module _ (w : Weights) (enough : Enough w) (f : Flat) (whole : IsWhole f) (fit :
         run = leads_then (InCode l) s (1 + moved.0) moved.1 reached.0 reached.1 first reached.3;
         ended = subst (λ v. Before l m mem_after v ke reached.1) ends.vars_are (subst (λ b. Before l m b ends.g.vars ke reached.1) ends.mem_is reached.4);
       }
+
+  under_way : (n : ℕ) (u : State) → Leads (InCode l) s n u → (j : ℕ) → j < n → IsUnderWay (map word_of code) start s j
+  under_way n u run j before =
+      let found = run.inside j before in
+      let count = length-map {A = Instr} {B = ℕ} code word_of in
+      record { state = found.0; ran = found.1; from = found.2.0; to = omega (arith, found.2.1) }
+
+  -- from the end of the body on
+  finishes : (ticks : ℕ) (mem_after : Bytes) (vars_after : Vars) (arrived : Arrived l m s mem_after vars_after ke (ticks + 9)) (u1 u2 : State) → Results l m l_sound mem_after vars_after ke arrived.e arrived.ended 0 f.rets (ke + length f.rets) (length f.rets) arrived.e u1 → Left l arrived.e u1 (register s.regs 2) (register s.regs 1) 2 u2 → Returns (map word_of code) stack start f.rets s ticks mem_after vars_after
+  finishes ticks mem_after vars_after arrived u1 u2 results left =
+      let run = leads_then (InCode l) s (arrived.n + length f.rets) u1 2 u2 (leads_then (InCode l) s arrived.n arrived.e (length f.rets) u1 arrived.run results.run) left.run in
+      let few = whole.rets in
+      let in_time = arrived.in_time in
+      let memory : Memory l m mem_after u2.mem = subst (λ b. Memory l m mem_after b) (sym left.mem) arrived.ended.memory in
+      record {
+        steps = arrived.n + length f.rets + 2;
+        end = u2;
+        ran = run.runs;
+        back = left.pc;
+        before = under_way (arrived.n + length f.rets + 2) u2 run;
+        in_time = omega arith;
+        results = λ q x v at set. left.others (10 + q) (λ e. omega arith) ∙ results.set q x v at set;
+        saved = saved;
+        arrays = memory.seen;
+        others = λ a outside none. memory.others a (λ frame. outside (in_stack f code text stack emits image start arrays s ready a frame)) none;
+        same_addresses = λ a. (memory.no_more a, memory.stay a);
+      }
+    where
+      saved : (r : ℕ) → IsSaved r → register u2.regs r ≡ register s.regs r
+      saved r is = by_register (cases_eq r 2)
+        where
+          by_register : (r ≡ 2) ⊎ (r ≡ 2 → ⊥) → register u2.regs r ≡ register s.regs r
+          by_register (inl two) = ap (register u2.regs) two ∙ left.sp_is ∙ ap (register s.regs) (sym two)
+          by_register (inr other) =
+              let no_result = saved_no_result r is in
+              left.others r other ∙ results.late.others r no_result.0 no_result.1 ∙ arrived.ended.kept r (saved_free l r is other refl) ∙ register-with_register_other s.regs 2 (register s.regs 2 - stack) r other
+
+  returns : (fuel : ℕ) (mem : Bytes) (ticks : ℕ) (mem_after : Bytes) (vars_after : Vars) → IsPart arrays mem s.mem → exec w f fuel mem (arguments s.regs f.args) ≡ Ok (ticks, mem_after, vars_after) → Returns (map word_of code) stack start f.rets s ticks mem_after vars_after
+  returns fuel mem ticks mem_after vars_after part done =
+      let arrived = arrives fuel mem ticks mem_after vars_after part done in
+      let e = arrived.e in
+      let ended = arrived.ended in
+      let few = whole.rets in
+      let late : Late l m e ke e = record { pc = ended.pc; count = ended.count; mem = refl; others = λ r a0 a1. refl } in
+      let results = results_lead l m l_sound mem_after vars_after ke e ended f.rets 0 ke e (omega arith) (all_by f.vars f.rets whole.results) late parts.results in
+      let u1 = results.0 in
+      let fits = ready.stack_fits in
+      let stack_is = emits.stack_is in
+      let few_vars = emits.few in
+      let free : IsFree l 1 = record { not_sp = λ q. omega arith; not_temporary = λ h. omega arith; not_held = refl } in
+      let ra_is : register u1.regs 1 ≡ register s.regs 1 = results.1.late.others 1 (λ q. omega arith) (λ q. omega arith) ∙ ended.kept 1 free ∙ register-with_register_other s.regs 2 (register s.regs 2 - stack) 1 (λ q. omega arith) in
+      let gives_back : Is code (ke + length f.rets) (Addi (reg 2) (reg 2) (imm12 stack)) = subst (λ n. Is code (ke + length f.rets) (Addi (reg 2) (reg 2) (imm12 n))) (sym stack_is) parts.gives_back in
+      let left = leaves l m l_sound mem_after vars_after ke e ended (ke + length f.rets) stack (register s.regs 2) (register s.regs 1) u1 results.1.late gives_back parts.returns (omega arith) (omega arith) (ready.machine.words 2) ra_is ready.return_aligned (ready.machine.words 1) in
+      finishes ticks mem_after vars_after arrived u1 left.0 results.1 left.1
+
+-- the emitted code runs as the three-address code does
+pub runs_as : (w : Weights) (enough : Enough w) (f : Flat) (whole : IsWhole f) (fit : all_fit f.body ≡ true) (code : List Instr) (text : List ℕ) (stack : ℕ) (emits : Emits f code text stack) → RunsAs w f (map word_of code) text stack
+runs_as w enough f whole fit code text stack emits image start arrays s fuel mem ticks mem_after vars_after ready part done =
+    returns w enough f whole fit code text stack emits image start arrays s ready fuel mem ticks mem_after vars_after part done

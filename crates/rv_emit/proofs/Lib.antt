@@ -19,3 +19,5 @@ pub mod TableText
 pub mod WordSmall
 pub mod Placed
 pub mod Returned
+pub mod Lengths
+pub mod NamedCode

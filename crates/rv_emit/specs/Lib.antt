@@ -1,4 +1,6 @@
 pub mod Code
+pub mod Size
+pub mod Names
 pub mod Fit
 pub mod Tables
 pub mod Whole

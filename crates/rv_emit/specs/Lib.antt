@@ -6,3 +6,4 @@ pub mod Tables
 pub mod Whole
 pub mod Ready
 pub mod Returns
+pub mod Emission

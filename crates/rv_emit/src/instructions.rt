@@ -1,0 +1,115 @@
+//! The instructions that the emission is made of.
+ghost use Rattle.std.specs.Prelude.{◌≡◌, [], ◌∷◌, ◌++◌, ◌+◌, ◌*◌, ◌<◌, ◌≤◌, OnOk, length, map};
+ghost use Rattle.rv_code.specs.Word.{word_of};
+ghost use Rattle.rv_emit.specs.Code as spec;
+ghost use Rattle.rv_emit.specs.Emission.{IsNear};
+
+use bed_syntax::Size;
+use reg_alloc::At;
+use rup_base::{List, NoMemory};
+use rv_code::{Imm12, Imm13, Imm21, Instr, Reg};
+
+/// Puts an instruction behind the others.
+pub fn put(code: &mut List<Instr>, i: Instr) -> Result<(), NoMemory>
+    ensures words { OnOk result (map word_of code.new ≡ map word_of code.old ++ word_of i ∷ []) }
+    ensures counted { OnOk result (length code.new ≡ length code.old + 1) }
+{
+    code.push(i)
+}
+
+/// From a place into a register.
+pub fn fetch(r: Reg, at: At) -> Instr
+    requires { IsNear at }
+    ensures { word_of result ≡ word_of (spec.fetch r.bits at) }
+{
+    match at {
+        At::Reg(q) => Instr::Addi {
+            rd: r,
+            rs1: Reg::from_bits(u32::from(q)),
+            imm: Imm12::from_bits(0),
+        },
+        At::Slot(j) => Instr::Lw {
+            rd: r,
+            rs1: Reg::SP,
+            imm: Imm12::from_bits(4 * j),
+        },
+    }
+}
+
+/// From a register into a place.
+pub fn save(r: Reg, at: At) -> Instr
+    requires { IsNear at }
+    ensures { word_of result ≡ word_of (spec.save r.bits at) }
+{
+    match at {
+        At::Reg(q) => Instr::Addi {
+            rd: Reg::from_bits(u32::from(q)),
+            rs1: r,
+            imm: Imm12::from_bits(0),
+        },
+        At::Slot(j) => Instr::Sw {
+            rs1: Reg::SP,
+            rs2: r,
+            imm: Imm12::from_bits(4 * j),
+        },
+    }
+}
+
+/// A load from the address in t0 and `bits` behind it, which are twelve bits with a sign, into t0.
+pub fn load_at(size: Size, bits: u32) -> Instr
+    requires { bits < 4096 }
+    ensures { word_of result ≡ word_of (spec.load_at size bits) }
+{
+    let (rd, rs1, imm) = (Reg::T0, Reg::T0, Imm12::from_bits(bits));
+    match size {
+        Size::One => Instr::Lbu { rd, rs1, imm },
+        Size::Two => Instr::Lhu { rd, rs1, imm },
+        Size::Four => Instr::Lw { rd, rs1, imm },
+    }
+}
+
+/// A store of t1 to the address in t0.
+pub fn store_to(size: Size) -> Instr
+    ensures { word_of result ≡ word_of (spec.store_to size) }
+{
+    let (rs1, rs2, imm) = (Reg::T0, Reg::T1, Imm12::from_bits(0));
+    match size {
+        Size::One => Instr::Sb { rs1, rs2, imm },
+        Size::Two => Instr::Sh { rs1, rs2, imm },
+        Size::Four => Instr::Sw { rs1, rs2, imm },
+    }
+}
+
+/// A jump so many instructions forward.
+pub fn jump(count: u32) -> Instr
+    requires { count < 500000 }
+    ensures { word_of result ≡ word_of (spec.jump count) }
+{
+    Instr::Jal {
+        rd: Reg::ZERO,
+        imm: Imm21::from_half(2 * count),
+    }
+}
+
+/// A jump so many instructions back.
+pub fn jump_back(count: u32) -> Instr
+    requires few { count < 500000 }
+    requires some { 0 < count }
+    ensures { word_of result ≡ word_of (spec.jump_back count) }
+{
+    Instr::Jal {
+        rd: Reg::ZERO,
+        imm: Imm21::from_half(1048576 - 2 * count),
+    }
+}
+
+/// Over the next instruction, where t0 is not 0.
+pub fn skip() -> Instr
+    ensures { word_of result ≡ word_of spec.skip }
+{
+    Instr::Bne {
+        rs1: Reg::T0,
+        rs2: Reg::ZERO,
+        imm: Imm13::from_half(4),
+    }
+}

@@ -1,13 +1,13 @@
 //! The instructions that the emission is made of.
-ghost use Rattle.std.specs.Prelude.{◌≡◌, [], ◌∷◌, ◌++◌, ◌+◌, ◌*◌, ◌<◌, ◌≤◌, OnOk, length, map};
+ghost use Rattle.std.specs.Prelude.{◌≡◌, ℕ, [], ◌∷◌, ◌++◌, ◌+◌, ◌*◌, ◌%◌, ◌^◌, ◌<◌, ◌≤◌, OnOk, length, map};
 ghost use Rattle.rv_code.specs.Word.{word_of};
 ghost use Rattle.rv_emit.specs.Code as spec;
 ghost use Rattle.rv_emit.specs.Emission.{IsNear};
 
-use bed_syntax::Size;
+use bed_syntax::{BOp, Size};
 use reg_alloc::At;
 use rup_base::{List, NoMemory};
-use rv_code::{Imm12, Imm13, Imm21, Instr, Reg};
+use rv_code::{Imm12, Imm13, Imm20, Imm21, Instr, Reg};
 
 /// Puts an instruction behind the others.
 pub fn put(code: &mut List<Instr>, i: Instr) -> Result<(), NoMemory>
@@ -55,17 +55,23 @@ pub fn save(r: Reg, at: At) -> Instr
     }
 }
 
-/// A load from the address in t0 and `bits` behind it, which are twelve bits with a sign, into t0.
-pub fn load_at(size: Size, bits: u32) -> Instr
-    requires { bits < 4096 }
-    ensures { word_of result ≡ word_of (spec.load_at size bits) }
+/// A load into t0 from the address in t0 and the low twelve bits of a number, with their sign, behind it.
+pub fn load_at(size: Size, number: u32) -> Instr
+    ensures { (n : ℕ) → n % 4096 ≡ number % 4096 → word_of result ≡ word_of (spec.load_at size n) }
 {
-    let (rd, rs1, imm) = (Reg::T0, Reg::T0, Imm12::from_bits(bits));
+    let (rd, rs1, imm) = (Reg::T0, Reg::T0, Imm12::from_bits(number % 4096));
     match size {
         Size::One => Instr::Lbu { rd, rs1, imm },
         Size::Two => Instr::Lhu { rd, rs1, imm },
         Size::Four => Instr::Lw { rd, rs1, imm },
     }
+}
+
+/// The upper twenty bits of a number, to which its low twelve bits are added with their sign.
+pub fn upper(number: u32) -> Imm20
+    ensures { (n : ℕ) → n % 2 ^ 32 ≡ number → result.bits ≡ spec.upper n % 1048576 }
+{
+    Imm20::from_bits(number.wrapping_add(2048) >> 12)
 }
 
 /// A store of t1 to the address in t0.
@@ -111,5 +117,34 @@ pub fn skip() -> Instr
         rs1: Reg::T0,
         rs2: Reg::ZERO,
         imm: Imm13::from_half(4),
+    }
+}
+
+/// What makes t0 the result of an operation on t0 and t1.
+pub fn operate(op: BOp, code: &mut List<Instr>) -> Result<(), NoMemory>
+    ensures words { OnOk result (map word_of code.new ≡ map word_of code.old ++ map word_of (spec.operation op)) }
+    ensures counted { OnOk result (length code.new ≡ length code.old + length (spec.operation op)) }
+{
+    let (rd, rs1, rs2) = (Reg::T0, Reg::T0, Reg::T1);
+    match op {
+        BOp::Add => put(code, Instr::Add { rd, rs1, rs2 }),
+        BOp::Sub => put(code, Instr::Sub { rd, rs1, rs2 }),
+        BOp::Mul => put(code, Instr::Mul { rd, rs1, rs2 }),
+        BOp::Mulhuu => put(code, Instr::Mulhu { rd, rs1, rs2 }),
+        BOp::Divu => put(code, Instr::Divu { rd, rs1, rs2 }),
+        BOp::Remu => put(code, Instr::Remu { rd, rs1, rs2 }),
+        BOp::And => put(code, Instr::And { rd, rs1, rs2 }),
+        BOp::Or => put(code, Instr::Or { rd, rs1, rs2 }),
+        BOp::Xor => put(code, Instr::Xor { rd, rs1, rs2 }),
+        BOp::Sru => put(code, Instr::Srl { rd, rs1, rs2 }),
+        BOp::Slu => put(code, Instr::Sll { rd, rs1, rs2 }),
+        BOp::Srs => put(code, Instr::Sra { rd, rs1, rs2 }),
+        BOp::Lts => put(code, Instr::Slt { rd, rs1, rs2 }),
+        BOp::Ltu => put(code, Instr::Sltu { rd, rs1, rs2 }),
+        BOp::Eq => {
+            put(code, Instr::Sub { rd, rs1, rs2 })?;
+            let imm = Imm12::from_bits(1);
+            put(code, Instr::Sltiu { rd, rs1, imm })
+        }
     }
 }

@@ -4,4 +4,6 @@
 
 mod instructions;
 mod length;
+mod statements;
+mod tables;
 

@@ -87,6 +87,10 @@ sides a b n = jump (length (a (n + 1)) + 2) ∷ (a (n + 1) ++ jump (length (b (n
 abbrev pub turn : ℕ → Code → Code
 turn before body n = jump (length (body (n + 1)) + 2) ∷ (body (n + 1) ++ jump_back (before + 1 + length (body (n + 1))) ∷ [])
 
+-- a loop: what stands before the test, the test of what the instruction fetches, the body
+abbrev pub while_code : Code → Instr → Code → Code
+while_code a fetches b n = a n ++ (fetches ∷ skip ∷ turn (length (a n) + 2) b (n + length (a n) + 2))
+
 -- a statement, where `place` gives the place of a variable, and `far` the distance of a table from the first instruction
 abbrev pub stmt_code_step : (ℕ → At) → (ℕ → ℕ) → FStmt-F Code → Code
 stmt_code_step place far (f.Lit x v) n = Lui (reg 5) (imm20 (upper v)) ∷ Addi (reg 5) (reg 5) (imm12 v) ∷ save 5 (place x) ∷ []
@@ -97,8 +101,7 @@ stmt_code_step place far (f.Table size x k y) n =
     fetch 5 (place y) ∷ Auipc (reg 6) (imm20 (upper (ahead (far k) (n + 1)))) ∷ Add (reg 5) (reg 5) (reg 6) ∷ load_at size (ahead (far k) (n + 1)) ∷ save 5 (place x) ∷ []
 stmt_code_step place far (f.Store size x y) n = fetch 5 (place x) ∷ fetch 6 (place y) ∷ store_to size ∷ []
 stmt_code_step place far (f.If x a b) n = fetch 5 (place x) ∷ skip ∷ sides (in_row a) (in_row b) (n + 2)
-stmt_code_step place far (f.While a x b) n =
-    in_row a n ++ fetch 5 (place x) ∷ skip ∷ turn (length (in_row a n) + 2) (in_row b) (n + length (in_row a n) + 2)
+stmt_code_step place far (f.While a x b) n = while_code (in_row a) (fetch 5 (place x)) (in_row b) n
 
 abbrev pub stmt_code : (ℕ → At) → (ℕ → ℕ) → FStmt → Code
 stmt_code place far = fold-FStmt Code (stmt_code_step place far)

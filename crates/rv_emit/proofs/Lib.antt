@@ -21,3 +21,4 @@ pub mod Placed
 pub mod Returned
 pub mod Lengths
 pub mod NamedCode
+pub mod Emitting

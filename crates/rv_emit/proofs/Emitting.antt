@@ -2,11 +2,14 @@
 use Rattle.std.proofs.Common.{◌≡◌, ℕ, suc, ◌+◌, ◌<◌, Bool, true, false, ◌&&◌, sum, drop, drop-cons, slice_index_or, List, [], ◌∷◌, ◌++◌, length, map, OnOk, Result, Ok, Err, refl, sym, ap, ◌∙◌, subst, arith, length-append, append_assoc}
 use Rattle.std.proofs.lemmas.List.{length-map, map-append}
 use Rattle.std.proofs.lemmas.Grind.{common_steps}
-use Rattle.flat_lang.specs.declared.flat.FStmt.{FStmt}
+use Rattle.flat_lang.specs.declared.flat.FStmt.{FStmt, fold-roll-FStmt}
+use Rattle.flat_lang.specs.declared.flat.FStmt as tree
+use Rattle.flat_lang.specs.declared.flat.FStmt.TheOpen as o
+use Rattle.flat_lang.specs.declared.flat.FStmt.TheVariants as v
 use Rattle.reg_alloc.specs.declared.plan.At.{At}
 use Rattle.rv_code.specs.declared.instruction.Instr.{Instr}
 use Rattle.rv_code.specs.Word.{word_of}
-use Rattle.rv_emit.specs.Code.{Code, skip, jump, jump_back, sides, turn, while_code, stmt_code, block_code}
+use Rattle.rv_emit.specs.Code.{Code, fetch, skip, jump, jump_back, sides, turn, while_code, stmt_code_step, stmt_code, block_code}
 use Rattle.rv_emit.specs.Emission.{Adds}
 
 pub on_ok : {T : Type 0} {E : Type 0} (r : Result T E) (A B : Type 0) → (A → B) → OnOk r A → OnOk r B
@@ -39,53 +42,38 @@ block_step place far old new c rest adds =
     ∙ ap (λ x. map word_of old ++ x) (sym (map-append word_of here (block_code place far rest (length new))))
     ∙ ap (λ n. map word_of old ++ map word_of (here ++ block_code place far rest n)) next
 
-pub if_adds : (ca cb : Code) (la lb : ℕ) → ((n : ℕ) → length (ca n) ≡ la) → ((n : ℕ) → length (cb n) ≡ lb) → (f : Instr) (c0 c1 c2 c3 c4 c5 c6 : List Instr) → Adds c0 c1 (f ∷ []) → Adds c1 c2 (skip ∷ []) → Adds c2 c3 (jump (la + 2) ∷ []) → Adds c3 c4 (ca (length c3)) → Adds c4 c5 (jump (lb + 1) ∷ []) → Adds c5 c6 (cb (length c5)) → Adds c0 c6 (f ∷ skip ∷ sides ca cb (length c0 + 2))
-if_adds ca cb la lb sa sb f c0 c1 c2 c3 c4 c5 c6 a1 a2 a3 a4 a5 a6 =
+pub if_adds : (ca cb : Code) (la lb : ℕ) → ((n : ℕ) → length (ca n) ≡ la) → ((n : ℕ) → length (cb n) ≡ lb) → (f : Instr) (c0 c1 c2 c3 : List Instr) → Adds c0 c1 (f ∷ skip ∷ []) → Adds c1 c2 (jump (la + 2) ∷ ca (length c1 + 1)) → Adds c2 c3 (jump (lb + 1) ∷ cb (length c2 + 1)) → Adds c0 c3 (f ∷ skip ∷ sides ca cb (length c0 + 2))
+if_adds ca cb la lb sa sb f c0 c1 c2 c3 a1 a2 a3 =
     let n = length c0 in
-    let l1 = adds_length c0 c1 (f ∷ []) a1 in
-    let l2 = adds_length c1 c2 (skip ∷ []) a2 in
-    let l3 = adds_length c2 c3 (jump (la + 2) ∷ []) a3 in
-    let l4 = adds_length c3 c4 (ca (length c3)) a4 in
-    let l5 = adds_length c4 c5 (jump (lb + 1) ∷ []) a5 in
-    let first : length c3 ≡ n + 2 + 1 = omega arith in
-    let s1 = sa (length c3) in
+    let l1 = adds_length c0 c1 (f ∷ skip ∷ []) a1 in
+    let l2 = adds_length c1 c2 (jump (la + 2) ∷ ca (length c1 + 1)) a2 in
+    let s1 = sa (length c1 + 1) in
     let s2 = sa (n + 2 + 1) in
-    let second : length c5 ≡ n + 2 + 2 + length (ca (n + 2 + 1)) = omega arith in
-    let b3 : Adds c2 c3 (jump (length (ca (n + 2 + 1)) + 2) ∷ []) = subst (λ k. Adds c2 c3 (jump (k + 2) ∷ [])) (sym s2) a3 in
-    let b4 : Adds c3 c4 (ca (n + 2 + 1)) = subst (λ k. Adds c3 c4 (ca k)) first a4 in
-    let b5 : Adds c4 c5 (jump (length (cb (n + 2 + 2 + length (ca (n + 2 + 1)))) + 1) ∷ []) = subst (λ k. Adds c4 c5 (jump (k + 1) ∷ [])) (sym (sb (n + 2 + 2 + length (ca (n + 2 + 1))))) a5 in
-    let b6 : Adds c5 c6 (cb (n + 2 + 2 + length (ca (n + 2 + 1)))) = subst (λ k. Adds c5 c6 (cb k)) second a6 in
-    let i3 = jump (length (ca (n + 2 + 1)) + 2) in
-    let k5 = n + 2 + 2 + length (ca (n + 2 + 1)) in
-    let i5 = jump (length (cb k5) + 1) in
-    let d5 : Adds c4 c6 (i5 ∷ cb k5) = adds_then c4 c5 c6 (i5 ∷ []) (cb k5) b5 b6 in
-    let d4 : Adds c3 c6 (ca (n + 2 + 1) ++ i5 ∷ cb k5) = adds_then c3 c4 c6 (ca (n + 2 + 1)) (i5 ∷ cb k5) b4 d5 in
-    let d3 : Adds c2 c6 (i3 ∷ (ca (n + 2 + 1) ++ i5 ∷ cb k5)) = adds_then c2 c3 c6 (i3 ∷ []) (ca (n + 2 + 1) ++ i5 ∷ cb k5) b3 d4 in
-    let d2 : Adds c1 c6 (skip ∷ i3 ∷ (ca (n + 2 + 1) ++ i5 ∷ cb k5)) = adds_then c1 c2 c6 (skip ∷ []) (i3 ∷ (ca (n + 2 + 1) ++ i5 ∷ cb k5)) a2 d3 in
-    adds_then c0 c1 c6 (f ∷ []) (skip ∷ i3 ∷ (ca (n + 2 + 1) ++ i5 ∷ cb k5)) a1 d2
+    let k = n + 2 + 2 + length (ca (n + 2 + 1)) in
+    let i2 = jump (length (ca (n + 2 + 1)) + 2) in
+    let i3 = jump (length (cb k) + 1) in
+    let first : length c1 + 1 ≡ n + 2 + 1 = omega arith in
+    let second : length c2 + 1 ≡ k = omega arith in
+    let b2 : Adds c1 c2 (i2 ∷ ca (n + 2 + 1)) = subst (λ q. Adds c1 c2 (jump (q + 2) ∷ ca (n + 2 + 1))) (sym s2) (subst (λ q. Adds c1 c2 (jump (la + 2) ∷ ca q)) first a2) in
+    let b3 : Adds c2 c3 (i3 ∷ cb k) = subst (λ q. Adds c2 c3 (jump (q + 1) ∷ cb k)) (sym (sb k)) (subst (λ q. Adds c2 c3 (jump (lb + 1) ∷ cb q)) second a3) in
+    adds_then c0 c1 c3 (f ∷ skip ∷ []) (i2 ∷ (ca (n + 2 + 1) ++ i3 ∷ cb k)) a1 (adds_then c1 c2 c3 (i2 ∷ ca (n + 2 + 1)) (i3 ∷ cb k) b2 b3)
 
-pub while_adds : (ca cb : Code) (la lb : ℕ) → ((n : ℕ) → length (ca n) ≡ la) → ((n : ℕ) → length (cb n) ≡ lb) → (f : Instr) (c0 c1 c2 c3 c4 c5 c6 : List Instr) → Adds c0 c1 (ca (length c0)) → Adds c1 c2 (f ∷ []) → Adds c2 c3 (skip ∷ []) → Adds c3 c4 (jump (lb + 2) ∷ []) → Adds c4 c5 (cb (length c4)) → Adds c5 c6 (jump_back (la + 3 + lb) ∷ []) → Adds c0 c6 (while_code ca f cb (length c0))
-while_adds ca cb la lb sa sb f c0 c1 c2 c3 c4 c5 c6 a1 a2 a3 a4 a5 a6 =
+pub while_adds : (ca cb : Code) (la lb : ℕ) → ((n : ℕ) → length (ca n) ≡ la) → ((n : ℕ) → length (cb n) ≡ lb) → (f : Instr) (c0 c1 c2 c3 c4 : List Instr) → Adds c0 c1 (ca (length c0)) → Adds c1 c2 (f ∷ skip ∷ []) → Adds c2 c3 (jump (lb + 2) ∷ cb (length c2 + 1)) → Adds c3 c4 (jump_back (la + 3 + lb) ∷ []) → Adds c0 c4 (while_code ca f cb (length c0))
+while_adds ca cb la lb sa sb f c0 c1 c2 c3 c4 a1 a2 a3 a4 =
     let n = length c0 in
     let test = n + length (ca n) + 2 in
     let l1 = adds_length c0 c1 (ca n) a1 in
-    let l2 = adds_length c1 c2 (f ∷ []) a2 in
-    let l3 = adds_length c2 c3 (skip ∷ []) a3 in
-    let l4 = adds_length c3 c4 (jump (lb + 2) ∷ []) a4 in
-    let first : length c4 ≡ test + 1 = omega arith in
+    let l2 = adds_length c1 c2 (f ∷ skip ∷ []) a2 in
     let before = sa n in
     let size = sb (test + 1) in
-    let b4 : Adds c3 c4 (jump (length (cb (test + 1)) + 2) ∷ []) = subst (λ k. Adds c3 c4 (jump (k + 2) ∷ [])) (sym size) a4 in
-    let b5 : Adds c4 c5 (cb (test + 1)) = subst (λ k. Adds c4 c5 (cb k)) first a5 in
+    let i3 = jump (length (cb (test + 1)) + 2) in
+    let i4 = jump_back (length (ca n) + 2 + 1 + length (cb (test + 1))) in
+    let first : length c2 + 1 ≡ test + 1 = omega arith in
     let back : la + 3 + lb ≡ length (ca n) + 2 + 1 + length (cb (test + 1)) = omega arith in
-    let b6 : Adds c5 c6 (jump_back (length (ca n) + 2 + 1 + length (cb (test + 1))) ∷ []) = subst (λ k. Adds c5 c6 (jump_back k ∷ [])) back a6 in
-    let i4 = jump (length (cb (test + 1)) + 2) in
-    let i6 = jump_back (length (ca n) + 2 + 1 + length (cb (test + 1))) in
-    let d5 : Adds c4 c6 (cb (test + 1) ++ i6 ∷ []) = adds_then c4 c5 c6 (cb (test + 1)) (i6 ∷ []) b5 b6 in
-    let d4 : Adds c3 c6 (i4 ∷ (cb (test + 1) ++ i6 ∷ [])) = adds_then c3 c4 c6 (i4 ∷ []) (cb (test + 1) ++ i6 ∷ []) b4 d5 in
-    let d3 : Adds c2 c6 (skip ∷ i4 ∷ (cb (test + 1) ++ i6 ∷ [])) = adds_then c2 c3 c6 (skip ∷ []) (i4 ∷ (cb (test + 1) ++ i6 ∷ [])) a3 d4 in
-    let d2 : Adds c1 c6 (f ∷ skip ∷ i4 ∷ (cb (test + 1) ++ i6 ∷ [])) = adds_then c1 c2 c6 (f ∷ []) (skip ∷ i4 ∷ (cb (test + 1) ++ i6 ∷ [])) a2 d3 in
-    adds_then c0 c1 c6 (ca n) (f ∷ skip ∷ i4 ∷ (cb (test + 1) ++ i6 ∷ [])) a1 d2
+    let b3 : Adds c2 c3 (i3 ∷ cb (test + 1)) = subst (λ q. Adds c2 c3 (jump (q + 2) ∷ cb (test + 1))) (sym size) (subst (λ q. Adds c2 c3 (jump (lb + 2) ∷ cb q)) first a3) in
+    let b4 : Adds c3 c4 (i4 ∷ []) = subst (λ q. Adds c3 c4 (jump_back q ∷ [])) back a4 in
+    adds_then c0 c1 c4 (ca n) (f ∷ skip ∷ i3 ∷ (cb (test + 1) ++ i4 ∷ [])) a1
+    (adds_then c1 c2 c4 (f ∷ skip ∷ []) (i3 ∷ (cb (test + 1) ++ i4 ∷ [])) a2 (adds_then c2 c3 c4 (i3 ∷ cb (test + 1)) (i4 ∷ []) b3 b4))
 
 -- what is left of a list begins with its next element
 pub item_dropped : {A : Type 0} (xs : List A) (i : ℕ) (x : A) → i < length xs → x ≡ slice_index_or xs i x → drop i xs ≡ x ∷ drop (i + 1) xs
@@ -103,3 +91,19 @@ second_true false b h = absurd (cc)
 pub first_gone : (a b : Bool) → a ≡ true → (a && b) ≡ b
 first_gone true b h = refl
 first_gone false b h = absurd (cc)
+
+pub if_code : (place : ℕ → At) (far : ℕ → ℕ) (s : FStmt) (x : ℕ) (a b a0 b0 : List FStmt) (n : ℕ) → s ≡ v.If x a b → a0 ≡ a → b0 ≡ b → (fetch 5 (place x) ∷ skip ∷ sides (block_code place far a0) (block_code place far b0) (n + 2)) ≡ stmt_code place far s n
+unfolding tree.roll-FStmt denote.Hole.Carrier.roll
+if_code place far s x a b a0 b0 n is same also =
+    ap (λ z. fetch 5 (place x) ∷ skip ∷ sides (block_code place far z) (block_code place far b0) (n + 2)) same
+    ∙ ap (λ z. fetch 5 (place x) ∷ skip ∷ sides (block_code place far a) (block_code place far z) (n + 2)) also
+    ∙ sym (ap (λ z. z n) (fold-roll-FStmt Code (stmt_code_step place far) (o.If x a b)))
+    ∙ ap (λ z. stmt_code place far z n) (sym is)
+
+pub loop_code : (place : ℕ → At) (far : ℕ → ℕ) (s : FStmt) (x : ℕ) (a b a0 b0 : List FStmt) (n : ℕ) → s ≡ v.While a x b → a0 ≡ a → b0 ≡ b → while_code (block_code place far a0) (fetch 5 (place x)) (block_code place far b0) n ≡ stmt_code place far s n
+unfolding tree.roll-FStmt denote.Hole.Carrier.roll
+loop_code place far s x a b a0 b0 n is same also =
+    ap (λ z. while_code (block_code place far z) (fetch 5 (place x)) (block_code place far b0) n) same
+    ∙ ap (λ z. while_code (block_code place far a) (fetch 5 (place x)) (block_code place far z) n) also
+    ∙ sym (ap (λ z. z n) (fold-roll-FStmt Code (stmt_code_step place far) (o.While a x b)))
+    ∙ ap (λ z. stmt_code place far z n) (sym is)

@@ -1,10 +1,10 @@
 //! The code of statements.
-ghost use Rattle.std.specs.Prelude.{◌≡◌, [], ◌∷◌, ◌++◌, ◌+◌, ◌*◌, ◌%◌, ◌<◌, ◌≤◌, ◌^◌, OnOk, length, map, true, ◌&&◌};
+ghost use Rattle.std.specs.Prelude.{◌≡◌, [], ◌∷◌, ◌++◌, ◌+◌, ◌*◌, ◌%◌, ◌<◌, ◌≤◌, ◌^◌, OnOk, length, map, true};
 ghost use Rattle.rv_code.specs.Field.{reg, imm12, imm20};
 ghost use Rattle.rv_code.specs.declared.instruction.Instr.TheVariants.{Lui, Addi, Auipc, Add};
 ghost use Rattle.flat_lang.specs.Whole.{is_whole, all_whole};
 ghost use Rattle.flat_lang.specs.Count.{stmt_weight, code_weight};
-ghost use Rattle.rv_emit.specs.Code.{operation, ahead, sides, while_code, stmt_code, block_code};
+ghost use Rattle.rv_emit.specs.Code.{operation, ahead, stmt_code, block_code};
 ghost use Rattle.rv_emit.specs.Code as spec;
 ghost use Rattle.rv_emit.specs.Size.{stmt_length, block_length};
 ghost use Rattle.rv_emit.specs.Fit.{fits, all_fit};
@@ -149,63 +149,38 @@ fn look_up(
     put(code, save(Reg::T0, place(plan, x)))
 }
 
-// The code of a conditional.
-#[cycle(emission)]
-fn conditional(
-    plan: &Plan,
-    tables: &TablePlaces,
-    x: u32,
-    a: &[FStmt],
-    b: &[FStmt],
-    code: &mut List<Instr>,
-) -> Result<(), NoMemory>
+// The test of a variable, and over the next instruction where it is not 0.
+fn test(plan: &Plan, x: u32, code: &mut List<Instr>) -> Result<(), NoMemory>
     requires plan { IsPlan plan.now }
-    requires short { tables.now.total ≤ 260000 }
     requires known { x < length plan.now.places }
-    requires first { all_whole (length plan.now.places) (length tables.now.offsets) a.now ≡ true }
-    requires second { all_whole (length plan.now.places) (length tables.now.offsets) b.now ≡ true }
-    requires light { code_weight Weights.LARGE a.now + code_weight Weights.LARGE b.now ≤ 250000 }
-    requires room { length code.old + (4 + (block_length a.now + block_length b.now)) ≤ tables.now.total }
-    ensures counted { OnOk result (length code.new ≡ length code.old + (4 + (block_length a.now + block_length b.now))) }
-    ensures fit { OnOk result ((all_fit a.now && all_fit b.now) ≡ true) }
-    ensures words { OnOk result (Adds code.old code.new (spec.fetch 5 (slot_of x) ∷ spec.skip ∷ sides (block_code slot_of (far_of tables.now) a.now) (block_code slot_of (far_of tables.now) b.now) (length code.old + 2))) }
+    ensures counted { OnOk result (length code.new ≡ length code.old + 2) }
+    ensures words { OnOk result (Adds code.old code.new (spec.fetch 5 (slot_of x) ∷ spec.skip ∷ [])) }
 {
     put(code, fetch(Reg::T0, place(plan, x)))?;
-    put(code, skip())?;
-    put(code, jump(length_of_block(a) + 2))?;
-    block(plan, tables, a, code)?;
-    put(code, jump(length_of_block(b) + 1))?;
-    block(plan, tables, b, code)
+    put(code, skip())
 }
 
-// The code of a loop.
+// A jump over statements and `extra` instructions, counting itself, and the code of the statements.
 #[cycle(emission)]
-fn repeat(
+fn guarded(
     plan: &Plan,
     tables: &TablePlaces,
-    a: &[FStmt],
-    x: u32,
-    b: &[FStmt],
+    cs: &[FStmt],
+    extra: u32,
     code: &mut List<Instr>,
 ) -> Result<(), NoMemory>
     requires plan { IsPlan plan.now }
     requires short { tables.now.total ≤ 260000 }
-    requires known { x < length plan.now.places }
-    requires first { all_whole (length plan.now.places) (length tables.now.offsets) a.now ≡ true }
-    requires second { all_whole (length plan.now.places) (length tables.now.offsets) b.now ≡ true }
-    requires light { code_weight Weights.LARGE a.now + code_weight Weights.LARGE b.now ≤ 250000 }
-    requires room { length code.old + (block_length a.now + (4 + block_length b.now)) ≤ tables.now.total }
-    ensures counted { OnOk result (length code.new ≡ length code.old + (block_length a.now + (4 + block_length b.now))) }
-    ensures fit { OnOk result ((all_fit a.now && all_fit b.now) ≡ true) }
-    ensures words { OnOk result (Adds code.old code.new (while_code (block_code slot_of (far_of tables.now) a.now) (spec.fetch 5 (slot_of x)) (block_code slot_of (far_of tables.now) b.now) (length code.old))) }
+    requires whole { all_whole (length plan.now.places) (length tables.now.offsets) cs.now ≡ true }
+    requires light { code_weight Weights.LARGE cs.now ≤ 250000 }
+    requires room { length code.old + (1 + block_length cs.now) ≤ tables.now.total }
+    requires near { extra ≤ 2 }
+    ensures counted { OnOk result (length code.new ≡ length code.old + (1 + block_length cs.now)) }
+    ensures fit { OnOk result (all_fit cs.now ≡ true) }
+    ensures words { OnOk result (Adds code.old code.new (spec.jump (block_length cs.now + extra) ∷ block_code slot_of (far_of tables.now) cs.now (length code.old + 1))) }
 {
-    block(plan, tables, a, code)?;
-    put(code, fetch(Reg::T0, place(plan, x)))?;
-    put(code, skip())?;
-    let body = length_of_block(b);
-    put(code, jump(body + 2))?;
-    block(plan, tables, b, code)?;
-    put(code, jump_back(length_of_block(a) + 3 + body))
+    put(code, jump(length_of_block(cs) + extra))?;
+    block(plan, tables, cs, code)
 }
 
 // The code of a statement.
@@ -232,8 +207,18 @@ fn statement(
         FStmt::Load(size, x, y) => load(plan, *size, *x, *y, code),
         FStmt::Table(size, x, k, y) => look_up(plan, tables, *size, *x, *k, *y, code),
         FStmt::Store(size, x, y) => store(plan, *size, *x, *y, code),
-        FStmt::If(x, a, b) => conditional(plan, tables, *x, a.as_slice(), b.as_slice(), code),
-        FStmt::While(a, x, b) => repeat(plan, tables, a.as_slice(), *x, b.as_slice(), code),
+        FStmt::If(x, a, b) => {
+            test(plan, *x, code)?;
+            guarded(plan, tables, a.as_slice(), 2, code)?;
+            guarded(plan, tables, b.as_slice(), 1, code)
+        }
+        FStmt::While(a, x, b) => {
+            block(plan, tables, a.as_slice(), code)?;
+            test(plan, *x, code)?;
+            guarded(plan, tables, b.as_slice(), 2, code)?;
+            let behind = length_of_block(a.as_slice()) + 3 + length_of_block(b.as_slice());
+            put(code, jump_back(behind))
+        }
     }
 }
 

@@ -1,4 +1,4 @@
-use Rattle.std.proofs.Common.{rules, arith, ap, sym, ◌∙◌, refl, ◌≡◌, [], ◌∷◌, ◌++◌, ◌+◌, ◌*◌, ◌%◌, ◌<◌, ◌≤◌, ◌^◌, OnOk, length, map, true, ◌&&◌, ℕ, ◌-◌, ◌/◌, Bool, false, nat_eq, nat_lt, List, drop, slice_index_or}
+use Rattle.std.proofs.Common.{rules, arith, ap, sym, subst, ◌∙◌, refl, ◌≡◌, [], ◌∷◌, ◌++◌, ◌+◌, ◌*◌, ◌%◌, ◌<◌, ◌≤◌, ◌^◌, OnOk, length, map, true, ◌&&◌, ℕ, ◌-◌, ◌/◌, Bool, false, nat_eq, nat_lt, List, drop, slice_index_or}
 use Rattle.flat_lang.specs.declared.flat.FStmt.{FStmt}
 use Rattle.flat_lang.specs.Whole.{is_whole, all_whole}
 use Rattle.flat_lang.specs.Count.{stmt_weight, code_weight}
@@ -8,7 +8,7 @@ use Rattle.rv_emit.specs.Size.{stmt_length, block_length}
 use Rattle.rv_emit.specs.Fit.{fits, all_fit}
 use Rattle.rv_emit.specs.Whole.{slot_of}
 use Rattle.rv_emit.specs.Emission.{IsNear, IsPlan, Adds, far_of}
-use Rattle.rv_emit.proofs.Emitting.{on_ok, adds_one, block_step, if_adds, while_adds, item_dropped, sum_cons, second_true, first_gone}
+use Rattle.rv_emit.proofs.Emitting.{on_ok, adds_one, block_step, if_adds, while_adds, if_code, loop_code, item_dropped, sum_cons, second_true, first_gone}
 use Rattle.rv_code.specs.Word.{word_of}
 use Rattle.bed_syntax.specs.declared.weights.TheConstants as weights
 use Rattle.rv_emit.proofs.Lengths.{block_sized}
@@ -35,39 +35,30 @@ block-loop-c-preserved t c =
       fit = inv.fit ∙ ap all_fit left ∙ first_gone (fits item) (all_fit rest) c.in_ok-statement.ensures.fit
     }
 
--- src/statements.rt:178:5
-pub conditional-block-requires-2 : goal.conditional-block-requires-2
-conditional-block-requires-2 t c = (search rules, (c.requires.plan, (c.requires.short, (c.requires.second, (omega (arith, c.requires.light), omega (arith, c.requires.room, c.in_ok-put.ensures.counted, c.in_ok-put-2.ensures.counted, c.in_ok-put-3.ensures.counted, c.in_ok-put-4.ensures.counted, c.in_ok-block.ensures.counted))))))
-
--- src/statements.rt:153:1
-pub conditional-returns-clause-words : goal.conditional-returns-clause-words
-conditional-returns-clause-words t c =
+-- src/statements.rt:187:1
+pub statement-returns-in_ok-guarded-in-If-clause-words :
+    goal.statement-returns-in_ok-guarded-in-If-clause-words
+statement-returns-in_ok-guarded-in-If-clause-words t c =
     let far = far_of c.args.tables.now in
-    let a = c.args.a.now in
-    let b = c.args.b.now in
-    on_ok c.block-2.result _ _ (λ last. if_adds (block_code slot_of far a) (block_code slot_of far b) (block_length a) (block_length b) (block_sized slot_of far a) (block_sized slot_of far b) (spec.fetch 5 (slot_of c.args.x)) c.args.code.now c.put.new.code c.put-2.new.code c.put-3.new.code c.block.new.code c.put-4.new.code c.block-2.new.code
-    (adds_one c.args.code.now c.put.new.code c.fetch.result (spec.fetch 5 (slot_of c.args.x)) c.in_ok-put.ensures.words (c.fetch.ensures ∙ ap (λ p. word_of (spec.fetch 5 p)) c.place.ensures.slot))
-    (adds_one c.put.new.code c.put-2.new.code c.skip.result spec.skip c.in_ok-put-2.ensures.words c.skip.ensures)
-    (adds_one c.put-2.new.code c.put-3.new.code c.jump.result (spec.jump (block_length a + 2)) c.in_ok-put-3.ensures.words (c.jump.ensures ∙ ap (λ n. word_of (spec.jump (n + 2))) c.length_of_block.ensures.length))
-    c.in_ok-block.ensures.words
-    (adds_one c.block.new.code c.put-4.new.code c.jump-2.result (spec.jump (block_length b + 1)) c.in_ok-put-4.ensures.words (c.jump-2.ensures ∙ ap (λ n. word_of (spec.jump (n + 1))) c.length_of_block-2.ensures.length))
-    last) c.block-2.ensures.words
+    let a = c.as_slice.result.now in
+    let b = c.as_slice-in-If.result.now in
+    let x = c.in-If.x in
+    let whole = if_code slot_of far c.args.c.now x c.in-If.a c.in-If.b a b (length c.args.code.now) c.in-If.is c.as_slice.ensures c.as_slice-in-If.ensures in
+    on_ok c.guarded-in-If.result _ _ (λ last. subst (λ code. Adds c.args.code.now c.guarded-in-If.new.code code) whole
+    (if_adds (block_code slot_of far a) (block_code slot_of far b) (block_length a) (block_length b) (block_sized slot_of far a) (block_sized slot_of far b) (spec.fetch 5 (slot_of x)) c.args.code.now c.test.new.code c.guarded.new.code c.guarded-in-If.new.code c.in_ok-test-in-If.ensures.words c.in_ok-guarded-in-If.ensures.words last)) c.guarded-in-If.ensures.words
 
--- src/statements.rt:207:5
-pub repeat-block-requires-2 : goal.repeat-block-requires-2
-repeat-block-requires-2 t c = (search rules, (c.requires.plan, (c.requires.short, (c.requires.second, (omega (arith, c.requires.light), omega (arith, c.requires.room, c.in_ok-put.ensures.counted, c.in_ok-put-2.ensures.counted, c.in_ok-put-3.ensures.counted, c.in_ok-block.ensures.counted))))))
-
--- src/statements.rt:182:1
-pub repeat-returns-clause-words : goal.repeat-returns-clause-words
-repeat-returns-clause-words t c =
+-- src/statements.rt:187:1
+pub statement-returns-in_ok-guarded-in-While-clause-words :
+    goal.statement-returns-in_ok-guarded-in-While-clause-words
+statement-returns-in_ok-guarded-in-While-clause-words t c =
     let far = far_of c.args.tables.now in
-    let a = c.args.a.now in
-    let b = c.args.b.now in
-    let back : c.length_of_block.result + 3 + c.length_of_block-body.result ≡ block_length a + 3 + block_length b = omega (arith, c.length_of_block.ensures.length, c.length_of_block-body.ensures.length) in
-    on_ok c.put-4.result _ _ (λ last. while_adds (block_code slot_of far a) (block_code slot_of far b) (block_length a) (block_length b) (block_sized slot_of far a) (block_sized slot_of far b) (spec.fetch 5 (slot_of c.args.x)) c.args.code.now c.block.new.code c.put.new.code c.put-2.new.code c.put-3.new.code c.block-2.new.code c.put-4.new.code
-    c.in_ok-block.ensures.words
-    (adds_one c.block.new.code c.put.new.code c.fetch.result (spec.fetch 5 (slot_of c.args.x)) c.in_ok-put.ensures.words (c.fetch.ensures ∙ ap (λ p. word_of (spec.fetch 5 p)) c.place.ensures.slot))
-    (adds_one c.put.new.code c.put-2.new.code c.skip.result spec.skip c.in_ok-put-2.ensures.words c.skip.ensures)
-    (adds_one c.put-2.new.code c.put-3.new.code c.jump.result (spec.jump (block_length b + 2)) c.in_ok-put-3.ensures.words (c.jump.ensures ∙ ap (λ n. word_of (spec.jump (n + 2))) c.length_of_block-body.ensures.length))
-    c.in_ok-block-2.ensures.words
-    (adds_one c.block-2.new.code c.put-4.new.code c.jump_back.result (spec.jump_back (block_length a + 3 + block_length b)) last (c.jump_back.ensures ∙ ap (λ n. word_of (spec.jump_back n)) back))) c.put-4.ensures.words
+    let a = c.as_slice-in-While.result.now in
+    let b = c.as_slice-in-While-2.result.now in
+    let x = c.in-While.x in
+    let whole = loop_code slot_of far c.args.c.now x c.in-While.a c.in-While.b a b (length c.args.code.now) c.in-While.is c.as_slice-in-While.ensures c.as_slice-in-While-2.ensures in
+    let la : c.length_of_block.result ≡ block_length a = c.length_of_block.ensures.length ∙ ap block_length (c.as_slice-in-While-3.ensures ∙ sym c.as_slice-in-While.ensures) in
+    let lb : c.length_of_block-in-While.result ≡ block_length b = c.length_of_block-in-While.ensures.length ∙ ap block_length (c.as_slice-in-While-4.ensures ∙ sym c.as_slice-in-While-2.ensures) in
+    let back : c.length_of_block.result + 3 + c.length_of_block-in-While.result ≡ block_length a + 3 + block_length b = omega (arith, la, lb) in
+    on_ok c.put.result _ _ (λ last. subst (λ code. Adds c.args.code.now c.put.new.code code) whole
+    (while_adds (block_code slot_of far a) (block_code slot_of far b) (block_length a) (block_length b) (block_sized slot_of far a) (block_sized slot_of far b) (spec.fetch 5 (slot_of x)) c.args.code.now c.block.new.code c.test-in-While.new.code c.guarded-in-While.new.code c.put.new.code c.in_ok-block-in-While.ensures.words c.in_ok-test-in-While.ensures.words c.in_ok-guarded-in-While.ensures.words
+    (adds_one c.guarded-in-While.new.code c.put.new.code c.jump_back.result (spec.jump_back (block_length a + 3 + block_length b)) last (c.jump_back.ensures ∙ ap (λ n. word_of (spec.jump_back n)) back)))) c.put.ensures.words

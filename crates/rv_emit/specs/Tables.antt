@@ -1,13 +1,13 @@
 -- The text of tables, one behind another, each filled with zeros up to a multiple of four bytes.
-use Rattle.std.specs.Prelude.{ℕ, zero, suc, ◌+◌, ◌-◌, ◌%◌, List, [], ◌∷◌, ◌++◌, length, replicate, map}
+use Rattle.std.specs.Prelude.{ℕ, ◌+◌, ◌%◌, List, [], ◌∷◌, ◌++◌, length, map, ◌==◌, if◌then◌else◌}
 use Rattle.rup_base.specs.Gather.{joined}
 
--- how many zeros bring so many bytes up to a multiple of four
-abbrev pub fill : ℕ → ℕ
-fill n = 3 - (n + 3) % 4
+-- the zeros that bring so many bytes up to a multiple of four
+abbrev pub fill : ℕ → List ℕ
+fill n = if n % 4 == 1 then 0 ∷ 0 ∷ 0 ∷ [] else if n % 4 == 2 then 0 ∷ 0 ∷ [] else if n % 4 == 3 then 0 ∷ [] else []
 
 abbrev pub filled : List ℕ → List ℕ
-filled bytes = bytes ++ replicate (fill (length bytes)) 0
+filled bytes = bytes ++ fill (length bytes)
 
 abbrev pub text_of : List (List ℕ) → List ℕ
 text_of tables = joined (map filled tables)

@@ -24,14 +24,24 @@ fn fill_up(text: &mut Text, len: usize) -> Result<(), NoMemory>
     }
 }
 
+/// The text of tables, and the offset of each in it.
+#[derive(Debug, Drop)]
+pub struct TableText {
+    pub text: Text,
+    pub offsets: List<u64>,
+}
+
 /// Each table begins at a multiple of four.
-pub fn text_of_tables(alloc: Global, tables: &[Text]) -> Result<Text, NoMemory>
-    ensures { IfOk result (λ text. text ≡ text_of tables.now) }
+pub fn table_text(alloc: Global, tables: &[Text]) -> Result<TableText, NoMemory>
+    ensures text { IfOk result (λ t. t.text ≡ text_of tables.now) }
+    ensures offsets { IfOk result (λ t. t.offsets ≡ offsets_from 0 tables.now) }
 {
     let mut text = Text::new(alloc);
+    let mut offsets = List::new(alloc);
     for table in tables {
+        offsets.push(text.len() as u64)?;
         text.extend_from_slice(table.as_slice())?;
         fill_up(&mut text, table.len())?;
     }
-    Ok(text)
+    Ok(TableText { text, offsets })
 }

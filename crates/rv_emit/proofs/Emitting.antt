@@ -107,3 +107,7 @@ loop_code place far s x a b a0 b0 n is same also =
     ∙ ap (λ z. while_code (block_code place far a) (fetch 5 (place x)) (block_code place far z) n) also
     ∙ sym (ap (λ z. z n) (fold-roll-FStmt Code (stmt_code_step place far) (o.While a x b)))
     ∙ ap (λ z. stmt_code place far z n) (sym is)
+
+-- one instruction, and those that are left, are those that were left
+pub one_moved : (old new : List Instr) (i s : Instr) (rest : List Instr) → map word_of new ≡ map word_of old ++ word_of i ∷ [] → word_of i ≡ word_of s → map word_of new ++ map word_of rest ≡ map word_of old ++ map word_of (s ∷ rest)
+one_moved old new i s rest put same = ap (λ x. x ++ map word_of rest) (adds_one old new i s put same) ∙ append_assoc (map word_of old) (word_of s ∷ []) (map word_of rest)

@@ -1,6 +1,8 @@
 //! The instructions that the emission is made of.
 ghost use Rattle.std.specs.Prelude.{◌≡◌, ℕ, [], ◌∷◌, ◌++◌, ◌+◌, ◌*◌, ◌%◌, ◌^◌, ◌<◌, ◌≤◌, OnOk, length, map};
+ghost use Rattle.rv_code.specs.Field.{reg, imm12};
 ghost use Rattle.rv_code.specs.Word.{word_of};
+ghost use Rattle.rv_code.specs.declared.instruction.Instr.TheVariants.{Addi, Jalr};
 ghost use Rattle.rv_emit.specs.Code as spec;
 ghost use Rattle.rv_emit.specs.Emission.{IsNear};
 
@@ -146,5 +148,28 @@ pub fn operate(op: BOp, code: &mut List<Instr>) -> Result<(), NoMemory>
             let imm = Imm12::from_bits(1);
             put(code, Instr::Sltiu { rd, rs1, imm })
         }
+    }
+}
+
+/// A number of twelve bits with a sign is added to the stack pointer.
+pub fn move_sp(bits: u32) -> Instr
+    requires { bits < 4096 }
+    ensures { word_of result ≡ word_of (Addi (reg 2) (reg 2) (imm12 bits)) }
+{
+    Instr::Addi {
+        rd: Reg::SP,
+        rs1: Reg::SP,
+        imm: Imm12::from_bits(bits),
+    }
+}
+
+/// A jump to where the code was called from.
+pub fn go_back() -> Instr
+    ensures { word_of result ≡ word_of (Jalr (reg 0) (reg 1) (imm12 0)) }
+{
+    Instr::Jalr {
+        rd: Reg::ZERO,
+        rs1: Reg::RA,
+        imm: Imm12::from_bits(0),
     }
 }

@@ -2,6 +2,7 @@
 //! instructions, `specs/Ready.antt` from which states they may be called, and `specs/Returns.antt` what they do then.
 #![tactic(auto)]
 
+mod emission;
 mod instructions;
 mod length;
 mod statements;

@@ -20,8 +20,8 @@ use reg_alloc::{At, Plan};
 use rup_base::{List, NoMemory};
 use rv_code::{Imm12, Instr, Reg};
 
-// The place of a variable.
-fn place(plan: &Plan, x: u32) -> At
+/// The place of a variable.
+pub fn place(plan: &Plan, x: u32) -> At
     requires plan { IsPlan plan.now }
     requires known { x < length plan.now.places }
     ensures slot { result ≡ slot_of x }

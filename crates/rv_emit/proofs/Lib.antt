@@ -22,3 +22,4 @@ pub mod Returned
 pub mod Lengths
 pub mod NamedCode
 pub mod Emitting
+pub mod Assembly

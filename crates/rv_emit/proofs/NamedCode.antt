@@ -20,11 +20,11 @@ pub named-append : (a b : List Instr) → named_in (a ++ b) ≡ named_in a ++ na
 named-append [] b = refl
 named-append (i ∷ a) b = ap (λ x. instr_names i ++ x) (named-append a b) ∙ sym (append_assoc (instr_names i) (named_in a) (named_in b))
 
-fetch_nameless : (r : ℕ) (p : At) → instr_names (fetch r p) ≡ []
+pub fetch_nameless : (r : ℕ) (p : At) → instr_names (fetch r p) ≡ []
 fetch_nameless r (Register q) = refl
 fetch_nameless r (Slot j) = refl
 
-save_nameless : (r : ℕ) (p : At) → instr_names (save r p) ≡ []
+pub save_nameless : (r : ℕ) (p : At) → instr_names (save r p) ≡ []
 save_nameless r (Register q) = refl
 save_nameless r (Slot j) = refl
 

@@ -62,11 +62,11 @@ record Parts (f : Flat) (code : List Instr) : Type 0 where
   gives_back : Is code (1 + f.args + length (body_of f (length code)) + length f.rets) (Addi (reg 2) (reg 2) (imm12 (frame_bytes f.vars)))
   returns : Is code (1 + f.args + length (body_of f (length code)) + length f.rets + 1) (Jalr (reg 0) (reg 1) (imm12 0))
 
-length-moves_in : (n j : ℕ) → length (moves_in slot_of j n) ≡ n
+pub length-moves_in : (n j : ℕ) → length (moves_in slot_of j n) ≡ n
 length-moves_in zero j = refl
 length-moves_in (suc n) j = ap suc (length-moves_in n (j + 1))
 
-length-moves_out : (rets : List ℕ) (q : ℕ) → length (moves_out slot_of q rets) ≡ length rets
+pub length-moves_out : (rets : List ℕ) (q : ℕ) → length (moves_out slot_of q rets) ≡ length rets
 length-moves_out [] q = refl
 length-moves_out (x ∷ rets) q = ap suc (length-moves_out rets (q + 1))
 

@@ -96,3 +96,27 @@ fn assemble(alloc: Global, f: &Flat, p: &Plan) -> Result<Emitted, NoMemory>
         stack,
     })
 }
+
+/// The code of three-address code whose variables all have the slots of their own numbers.
+pub fn emit(alloc: Global, f: &Flat, p: &Plan) -> Result<Emitted, NoMemory>
+    requires whole { IsWhole f.now }
+    requires places { p.now.places ≡ slots f.now.vars }
+    requires few { f.now.vars ≤ 400 }
+    requires light { code_weight Weights.LARGE f.now.body ≤ 250000 }
+
+    // Called from a ready state, it returns with the results of the three-address code.
+    ensures runs { IfOk result (λ e. RunsAs Weights.LARGE f.now (map word_of e.code) e.tables e.stack) }
+    ensures some { IfOk result (λ e. 1 ≤ length e.code) }
+    ensures counted { IfOk result (λ e. length e.code ≤ code_weight Weights.LARGE f.now.body + 48) }
+    ensures stack_aligned { IfOk result (λ e. e.stack % 16 ≡ 0) }
+    ensures stack_small { IfOk result (λ e. e.stack ≤ 4096) }
+
+    // Each table begins at a multiple of 4.
+    ensures tables { IfOk result (λ e. e.tables ≡ text_of f.now.tables) }
+    ensures tables_small { IfOk result (λ e. length e.tables ≤ sum (map length f.now.tables) + 3 * length f.now.tables) }
+
+    // The operations that are known by their instructions are those of the three-address code, in its order.
+    ensures names { IfOk result (λ e. named_in e.code ≡ code_names f.now.body) }
+{
+    assemble(alloc, f, p)
+}

@@ -8,3 +8,4 @@ mod length;
 mod statements;
 mod tables;
 
+pub use emission::{Emitted, emit};

@@ -93,10 +93,10 @@ module _ (l : Site) (m : State) (sound : Sound l m) (mem : Bytes) (vars : Vars) 
         value = plus (register s.regs r) (extended 2048 (0 % 4096));
         does = rw (same, also) refl;
         is = λ w set.
-        let held = ended.held x w set in
-        let h : Holds l e (Register r) w = subst (λ p. Holds l e p w) is held.there in
-        let here : register s.regs r ≡ w = kept ∙ h in
-        rw here (nothing_added w held.word);
+            let held = ended.held x w set in
+            let h : Holds l e (Register r) w = subst (λ p. Holds l e p w) is held.there in
+            let here : register s.regs r ≡ w = kept ∙ h in
+            rw here (nothing_added w held.word);
       }
 
   -- the results from number q on are in their registers, and those before it still
@@ -116,21 +116,23 @@ module _ (l : Site) (m : State) (sound : Sound l m) (mem : Bytes) (vars : Vars) 
       let next = has.0.next in
       let run = leads_stood l m sound mem 0 k (fetch (10 + q) (l.place x)) s s first (stays (InCode l) s) (stood_late k s late) (record { stands = has.0.stands; inside = omega arith }) (given.does ∙ gives_is s (10 + q) given.value) in
       let then : Late l m e (k + 1) first = record {
-            pc = omega (arith, late.pc, sound.ends);
-            count = length-with_register s.regs (10 + q) given.value ∙ late.count;
-            mem = late.mem;
-            others = λ r a0 a1. register-with_register_other s.regs (10 + q) given.value r (λ same. omega arith) ∙ late.others r a0 a1;
-          } in
+        pc = omega (arith, late.pc, sound.ends);
+        count = length-with_register s.regs (10 + q) given.value ∙ late.count;
+        mem = late.mem;
+        others = λ r a0 a1. register-with_register_other s.regs (10 + q) given.value r (λ same. omega arith) ∙ late.others r a0 a1;
+      } in
       let rest = results_lead rets (q + 1) (k + 1) first (omega arith) known.1 then has.1 in
       let place : k + 1 + length rets ≡ k + suc (length rets) = omega arith in
       let here : register first.regs (10 + q) ≡ given.value = register-with_register_same s.regs (10 + q) given.value (omega arith) (omega (arith, late.count)) in
-      let steps : 1 + length rets ≡ suc (length rets) = omega arith in
-      (rest.0, record {
-        run = subst (λ n. Leads (InCode l) s n rest.0) steps (leads_then (InCode l) s 1 first (length rets) rest.0 run rest.1.run);
-        late = subst (λ n. Late l m e n rest.0) place rest.1.late;
-        set = found rest.0 given.value here given.is rest.1.set (rest.1.earlier (10 + q) (omega arith));
-        earlier = λ r below. rest.1.earlier r (omega arith) ∙ register-with_register_other s.regs (10 + q) given.value r (λ same. omega arith);
-      })
+      let steps : 1 + length rets ≡ suc (length rets) = omega arith in (
+        rest.0,
+        record {
+          run = subst (λ n. Leads (InCode l) s n rest.0) steps (leads_then (InCode l) s 1 first (length rets) rest.0 run rest.1.run);
+          late = subst (λ n. Late l m e n rest.0) place rest.1.late;
+          set = found rest.0 given.value here given.is rest.1.set (rest.1.earlier (10 + q) (omega arith));
+          earlier = λ r below. rest.1.earlier r (omega arith) ∙ register-with_register_other s.regs (10 + q) given.value r (λ same. omega arith);
+        },
+      )
     where
       found : (u : State) (value : ℕ) → register (with_register s.regs (10 + q) value) (10 + q) ≡ value → ((v : ℕ) → get vars x ≡ Some v → value ≡ v) → ((p y v : ℕ) → slice_get rets p ≡ Some y → get vars y ≡ Some v → register u.regs (10 + (q + 1) + p) ≡ v) → register u.regs (10 + q) ≡ register (with_register s.regs (10 + q) value) (10 + q) → (p y v : ℕ) → slice_get (x ∷ rets) p ≡ Some y → get vars y ≡ Some v → register u.regs (10 + q + p) ≡ v
       found u value here is later earlier zero y v at set =

@@ -63,11 +63,13 @@ module _ (l : Site) (m : State) (sound : Sound l m) (mem : Bytes) (vars : Vars) 
       let then : Stood l m sound mem (k + 1) t = record { pc = omega (arith, late.pc, sound.ends); memory = subst (λ b. Memory l m mem b) (sym late.mem) ended.memory } in
       let ra_is : register t.regs 1 ≡ ra = register-with_register_other s.regs 2 sp 1 (λ q. omega arith) ∙ goes_to in
       let target : plus (register t.regs 1) (extended 2048 (0 % 4096)) / 2 * 2 ≡ ra = rw (ra_is, nothing_added ra word) (omega arith) in
-      let second = leads_stood l m sound mem 1 (k + 1) (Jalr (reg 0) (reg 1) (imm12 0)) s t (at_pc t ra) first then returns (jumps_away t _ ra target aligned) in
-      (at_pc t ra, record {
-        run = second;
-        pc = refl;
-        sp_is = register-with_register_same s.regs 2 sp (omega arith) (omega (arith, late.count));
-        mem = late.mem;
-        others = λ r other. register-with_register_other s.regs 2 sp r other;
-      })
+      let second = leads_stood l m sound mem 1 (k + 1) (Jalr (reg 0) (reg 1) (imm12 0)) s t (at_pc t ra) first then returns (jumps_away t _ ra target aligned) in (
+        at_pc t ra,
+        record {
+          run = second;
+          pc = refl;
+          sp_is = register-with_register_same s.regs 2 sp (omega arith) (omega (arith, late.count));
+          mem = late.mem;
+          others = λ r other. register-with_register_other s.regs 2 sp r other;
+        },
+      )

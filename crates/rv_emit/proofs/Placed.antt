@@ -105,8 +105,8 @@ module _ (f : Flat) (code : List Instr) (text : List ℕ) (stack : ℕ) (emits :
         behind = omega arith;
         inside = λ a b at. let within = slice_get_within text (t.offset + a) b (in_text t.offset a b (t.there a b at)) in omega arith;
         stands = λ a b at.
-        let place : start + 4 * length code + (t.offset + a) ≡ start + table_far f (length code) k + a = omega arith in
-        subst (λ q. get s.mem q ≡ Some b) place (text_stands (t.offset + a) b (in_text t.offset a b (t.there a b at)));
+            let place : start + 4 * length code + (t.offset + a) ≡ start + table_far f (length code) k + a = omega arith in
+            subst (λ q. get s.mem q ≡ Some b) place (text_stands (t.offset + a) b (in_text t.offset a b (t.there a b at)));
       }
     where
       in_text : (o a b : ℕ) → slice_get (text_of f.tables) (o + a) ≡ Some b → slice_get text (o + a) ≡ Some b

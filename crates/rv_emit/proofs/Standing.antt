@@ -48,7 +48,6 @@ words_stand mem (x ∷ words) start (suc k) w stands found below =
     let back = stands_back mem start (to_le_bytes w32 x) (word_bytes words) stands in
     rw (← place) (words_stand mem words (start + 4) k w back found below)
 
-
 pub length-word_bytes : (words : List ℕ) → length (flat_map (to_le_bytes w32) words) ≡ 4 * length words
 length-word_bytes [] = refl
 length-word_bytes (w ∷ words) =

@@ -46,9 +46,9 @@ text_at (first ∷ tables) bytes start zero found =
       is = omega arith;
       aligned = refl;
       there = λ a b at.
-      let none : 0 + a ≡ a = omega arith in
-      let in_first : slice_get first a ≡ Some b = ap (λ x. slice_get x a) same ∙ at in
-      rw none (slice_get-append_left (filled first) (text_of tables) a b (slice_get-append_left first (fill (length first)) a b in_first));
+          let none : 0 + a ≡ a = omega arith in
+          let in_first : slice_get first a ≡ Some b = ap (λ x. slice_get x a) same ∙ at in
+          rw none (slice_get-append_left (filled first) (text_of tables) a b (slice_get-append_left first (fill (length first)) a b in_first));
     }
 text_at (first ∷ tables) bytes start (suc k) found =
     let rest = text_at tables bytes (start + length (filled first)) k found in
@@ -59,6 +59,6 @@ text_at (first ∷ tables) bytes start (suc k) found =
       is = rest.is ∙ omega arith;
       aligned = omega arith;
       there = λ a b at.
-      let place : length (filled first) + rest.offset + a ≡ length (filled first) + (rest.offset + a) = omega arith in
-      rw place (slice_get-append_right (filled first) (text_of tables) (rest.offset + a) ∙ rest.there a b at);
+          let place : length (filled first) + rest.offset + a ≡ length (filled first) + (rest.offset + a) = omega arith in
+          rw place (slice_get-append_right (filled first) (text_of tables) (rest.offset + a) ∙ rest.there a b at);
     }

@@ -11,7 +11,9 @@ ghost use Rattle.rv_emit.specs.Fit.{fits, all_fit};
 ghost use Rattle.rv_emit.specs.Whole.{slot_of};
 ghost use Rattle.rv_emit.specs.Emission.{IsNear, IsPlan, Adds, far_of};
 
-use crate::instructions::{fetch, jump, jump_back, load_at, operate, put, save, skip, store_to, upper};
+use crate::instructions::{
+    fetch, jump, jump_back, load_at, operate, put, save, skip, store_to, upper,
+};
 use crate::length::length_of_block;
 use crate::tables::TablePlaces;
 use bed_syntax::{BOp, Size, Weights};
@@ -36,15 +38,21 @@ fn literal(plan: &Plan, x: u32, value: u32, code: &mut List<Instr>) -> Result<()
     ensures counted { OnOk result (length code.new ≡ length code.old + 3) }
     ensures words { OnOk result (Adds code.old code.new (Lui (reg 5) (imm20 (spec.upper value)) ∷ Addi (reg 5) (reg 5) (imm12 value) ∷ spec.save 5 (slot_of x) ∷ [])) }
 {
-    put(code, Instr::Lui {
-        rd: Reg::T0,
-        imm: upper(value),
-    })?;
-    put(code, Instr::Addi {
-        rd: Reg::T0,
-        rs1: Reg::T0,
-        imm: Imm12::from_bits(value % 4096),
-    })?;
+    put(
+        code,
+        Instr::Lui {
+            rd: Reg::T0,
+            imm: upper(value),
+        },
+    )?;
+    put(
+        code,
+        Instr::Addi {
+            rd: Reg::T0,
+            rs1: Reg::T0,
+            imm: Imm12::from_bits(value % 4096),
+        },
+    )?;
     put(code, save(Reg::T0, place(plan, x)))
 }
 
@@ -59,14 +67,7 @@ fn copy(plan: &Plan, x: u32, y: u32, code: &mut List<Instr>) -> Result<(), NoMem
     put(code, save(Reg::T0, place(plan, x)))
 }
 
-fn bin(
-    plan: &Plan,
-    op: BOp,
-    x: u32,
-    y: u32,
-    z: u32,
-    code: &mut List<Instr>,
-) -> Result<(), NoMemory>
+fn bin(plan: &Plan, op: BOp, x: u32, y: u32, z: u32, code: &mut List<Instr>) -> Result<(), NoMemory>
     requires plan { IsPlan plan.now }
     requires to { x < length plan.now.places }
     requires first { y < length plan.now.places }
@@ -136,15 +137,21 @@ fn look_up(
 {
     put(code, fetch(Reg::T0, place(plan, y)))?;
     let number = distance(tables, k, code);
-    put(code, Instr::Auipc {
-        rd: Reg::T1,
-        imm: upper(number),
-    })?;
-    put(code, Instr::Add {
-        rd: Reg::T0,
-        rs1: Reg::T0,
-        rs2: Reg::T1,
-    })?;
+    put(
+        code,
+        Instr::Auipc {
+            rd: Reg::T1,
+            imm: upper(number),
+        },
+    )?;
+    put(
+        code,
+        Instr::Add {
+            rd: Reg::T0,
+            rs1: Reg::T0,
+            rs2: Reg::T1,
+        },
+    )?;
     put(code, load_at(size, number))?;
     put(code, save(Reg::T0, place(plan, x)))
 }

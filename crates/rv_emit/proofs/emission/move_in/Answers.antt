@@ -17,5 +17,5 @@ loop-j-preserved c =
     record {
       words = one_moved c.loop-j.code c.put.new.code c.save.result (code.save (10 + j) (slot_of j)) (moves_in slot_of (j + 1) left) c.in_ok-put.ensures.words is
           ∙ ap (λ n. map word_of c.loop-j.code ++ map word_of (moves_in slot_of j n)) count ∙ inv.words;
-      counted = omega (arith, inv.counted, c.in_ok-put.ensures.counted)
+      counted = omega (arith, inv.counted, c.in_ok-put.ensures.counted);
     }

@@ -7,5 +7,5 @@ abbrev pub invariant-loop-j : goal.invariant-loop-j
 invariant-loop-j l =
     record {
       words : map word_of l.code ++ map word_of (moves_in slot_of l.j (l.args - l.j)) ≡ map word_of l.fn.code ++ map word_of (moves_in slot_of 0 l.args);
-      counted : length l.code ≡ length l.fn.code + l.j
+      counted : length l.code ≡ length l.fn.code + l.j;
     }

@@ -8,5 +8,5 @@ invariant-loop-x l =
     record {
       words : map word_of l.code ++ map word_of (moves_out slot_of l.x-index (drop l.x-index l.rets)) ≡ map word_of l.fn.code ++ map word_of (moves_out slot_of 0 l.rets);
       counted : length l.code ≡ length l.fn.code + l.x-index;
-      register : l.register ≡ 10 + l.x-index
+      register : l.register ≡ 10 + l.x-index;
     }

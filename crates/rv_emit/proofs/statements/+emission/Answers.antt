@@ -32,7 +32,7 @@ block-loop-c-preserved t c =
       counted = omega (arith, c.in_ok-statement.ensures.counted, inv.counted, lengths);
       whole = second_true (is_whole (length c.args.plan.now.places) (length c.args.tables.now.offsets) item) (all_whole (length c.args.plan.now.places) (length c.args.tables.now.offsets) rest) whole;
       light = omega (arith, inv.light, weights_are);
-      fit = inv.fit ∙ ap all_fit left ∙ first_gone (fits item) (all_fit rest) c.in_ok-statement.ensures.fit
+      fit = inv.fit ∙ ap all_fit left ∙ first_gone (fits item) (all_fit rest) c.in_ok-statement.ensures.fit;
     }
 
 -- src/statements.rt:187:1

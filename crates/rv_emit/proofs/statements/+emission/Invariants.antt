@@ -18,5 +18,5 @@ invariant-block-loop-c l =
       counted : length l.code + block_length (drop l.c-index l.cs) ≡ length l.fn.code + block_length l.cs;
       whole : all_whole (length l.plan.places) (length l.tables.offsets) (drop l.c-index l.cs) ≡ true;
       light : code_weight weights.Weights.LARGE (drop l.c-index l.cs) ≤ code_weight weights.Weights.LARGE l.cs;
-      fit : all_fit l.cs ≡ all_fit (drop l.c-index l.cs)
+      fit : all_fit l.cs ≡ all_fit (drop l.c-index l.cs);
     }

@@ -3,21 +3,22 @@
 use crate::{At, allocate};
 use flat_lang::{FStmt, Flat};
 use rup_base::List;
-use std::alloc::Global;
 use std::process::Abort;
+use std::test::Fail;
 
 #[test]
-fn each_variable_has_a_slot(rt: HostRuntime) {
-    let rt = &rt;
-    let mut body = List::new(Global);
-    body.push(FStmt::Copy(1, 0)).expect(rt, "memory");
+fn each_variable_has_a_slot(rt: HostRuntime) -> Result<(), Fail> {
+    let mut body = List::new(rt.alloc());
+    body.push(FStmt::Copy(1, 0))?;
     let flat = Flat {
         body,
         vars: 2,
         args: 1,
-        rets: List::new(Global),
-        tables: List::new(Global),
+        rets: List::new(rt.alloc()),
+        tables: List::new(rt.alloc()),
     };
-    let plan = allocate(Global, &flat).expect(rt, "memory");
-    assert_eq!(rt; plan.places.as_slice(), &[At::Slot(0), At::Slot(1)]);
+    let plan = allocate(rt.alloc(), &flat)?;
+    let wanted = [At::Slot(0), At::Slot(1)];
+    assert_eq!(&rt; plan.places.as_slice(), wanted.as_slice());
+    Ok(())
 }

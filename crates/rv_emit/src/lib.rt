@@ -9,3 +9,6 @@ mod statements;
 mod tables;
 
 pub use emission::{Emitted, emit};
+
+#[cfg(test)]
+mod tests;

@@ -1,17 +1,16 @@
 -- Loads, look-ups in tables and stores run as they mean.
-use Rattle.std.proofs.Common.{◌≡◌, ◌≢◌, ℕ, ◌+◌, ◌-◌, ◌*◌, ◌/◌, ◌%◌, ◌^◌, ◌<◌, ◌≤◌, List, [], ◌∷◌, ◌++◌, length, Result, Ok, Err, Option, Some, None, IsSome, is_some, slice_get, nat_eq, refl, sym, ap, ◌∙◌, subst, arith}
+use Rattle.std.proofs.Common.{◌≡◌, ℕ, ◌+◌, ◌*◌, ◌%◌, ◌^◌, ◌<◌, ◌≤◌, List, [], ◌∷◌, length, Ok, Option, Some, None, IsSome, is_some, slice_get, nat_eq, refl, sym, ap, ◌∙◌, subst, arith}
 use Rattle.std.specs.FinMap.{get}
 use Rattle.bed_syntax.specs.declared.operation.Size.{Size}
 use Rattle.bed_syntax.specs.declared.operation.Size.TheVariants as size
 use Rattle.bed_syntax.specs.declared.weights.Weights.{Weights}
-use Rattle.bed_meaning.specs.declared.halt.Halt.{Halt}
-use Rattle.bed_meaning.specs.Access.{width, word, low_high, entry, loaded, stored, store}
+use Rattle.bed_meaning.specs.Access.{width, word, low_high, entry, loaded, store}
 use Rattle.flat_lang.specs.State.{Vars, spend, with_mem}
 use Rattle.flat_lang.specs.State as flat
 use Rattle.flat_lang.specs.Meaning.{given, fuelled, sets}
 use Rattle.reg_alloc.specs.declared.plan.At.{At}
 use Rattle.reg_alloc.specs.declared.plan.At.TheVariants.{Reg as Register, Slot}
-use Rattle.rv_code.specs.Field.{reg, imm12, imm20}
+use Rattle.rv_code.specs.Field.{reg, imm20}
 use Rattle.rv_code.specs.declared.instruction.Instr.{Instr}
 use Rattle.rv_code.specs.declared.instruction.Instr.TheVariants.{Auipc, Add}
 use Rattle.rv_machine.specs.Word.{plus}
@@ -21,10 +20,10 @@ use Rattle.rv_machine.specs.Effect.{effect}
 use Rattle.rv_machine.specs.Step.{gives}
 use Rattle.rv_machine.proofs.Memory.{get-with_number_other, mapped-with_number, mapped_before_with_number, number_at-with_number_other, is_some-number_at}
 use Rattle.rv_emit.specs.Code.{fetch, save, load_at, store_to, upper, ahead}
-use Rattle.rv_emit.proofs.Bytes.{Seen, seen-with_number, bytes-with_number, Number, Placed, Found, found_by, load_found, Stored, store_found, stored_number, tested}
+use Rattle.rv_emit.proofs.Bytes.{Seen, seen-with_number, bytes-with_number, Placed, found_by, load_found, store_found, stored_number, tested}
 use Rattle.rv_emit.proofs.Does.{loads_is, stores_is, with_stored, nothing_added, parts_sum}
-use Rattle.rv_emit.proofs.Site.{Site, InImage, InFrame, IsValid, TableAt, Sound, Memory, Held, Holds, Before}
-use Rattle.rv_emit.proofs.Runs.{Has, HasAll, IsSet, Reaches, same_in_image, next_pc, step_reach, set_reach, given_reach, fuelled_reach, ends_at}
+use Rattle.rv_emit.proofs.Site.{Site, InFrame, IsValid, TableAt, Sound, Memory, Holds, Before}
+use Rattle.rv_emit.proofs.Runs.{Has, HasAll, Reaches, same_in_image, next_pc, step_reach, set_reach, given_reach, fuelled_reach, ends_at}
 use Rattle.rv_emit.proofs.Places.{fetch_reach, save_reach}
 use Rattle.rv_emit.proofs.Straight.{Enough}
 

@@ -1,10 +1,8 @@
 -- The whole code is put together from its parts, and what holds of it.
-use Rattle.std.proofs.Common.{◌≡◌, ℕ, zero, suc, ◌+◌, ◌-◌, ◌*◌, ◌/◌, ◌%◌, ◌<◌, ◌≤◌, ◌⊎◌, inl, inr, List, [], ◌∷◌, ◌++◌, length, map, sum, Some, slice_get, true, refl, sym, ap, ◌∙◌, subst, arith, length-append, append-nil}
+use Rattle.std.proofs.Common.{◌≡◌, ℕ, zero, suc, ◌+◌, ◌-◌, ◌*◌, ◌%◌, ◌<◌, ◌≤◌, ◌⊎◌, inl, inr, List, [], ◌∷◌, ◌++◌, length, map, sum, Some, slice_get, true, refl, sym, ap, ◌∙◌, subst, arith, length-append, append-nil}
 use Rattle.std.specs.Prelude.{slice_index_or}
 use Rattle.std.proofs.lemmas.Bool.{cases_lt}
 use Rattle.std.proofs.lemmas.List.{length-map}
-use Rattle.rup_base.specs.Gather.{joined}
-use Rattle.bed_syntax.specs.Named.{Name}
 use Rattle.bed_syntax.specs.declared.weights.TheConstants as weights
 use Rattle.flat_lang.specs.Count.{code_names}
 use Rattle.flat_lang.specs.Whole.{IsWhole}
@@ -19,15 +17,15 @@ use Rattle.rv_code.specs.declared.instruction.Instr.{Instr}
 use Rattle.rv_code.specs.declared.instruction.Instr.TheVariants.{Addi, Jalr}
 use Rattle.rv_code.specs.Word.{word_of}
 use Rattle.rv_code.proofs.Same.{same}
-use Rattle.rv_emit.specs.Code.{fetch, save, block_code}
+use Rattle.rv_emit.specs.Code.{block_code}
 use Rattle.rv_emit.specs.Emission.{IsPlan, Adds}
 use Rattle.rv_emit.specs.Fit.{all_fit}
 use Rattle.rv_emit.specs.Names.{instr_names, named_in}
 use Rattle.rv_emit.specs.Returns.{RunsAs}
 use Rattle.rv_emit.specs.Tables.{filled, text_of, offsets_from}
-use Rattle.rv_emit.specs.Whole.{slot_of, frame_bytes, moves_in, moves_out, enter, leave, body_of, table_far, code_of}
+use Rattle.rv_emit.specs.Whole.{slot_of, frame_bytes, moves_in, moves_out, leave, body_of, table_far, code_of}
 use Rattle.rv_emit.proofs.Emitting.{adds_length, adds_then, sum_cons}
-use Rattle.rv_emit.proofs.NamedCode.{named-append, block_named, fetch_nameless, save_nameless}
+use Rattle.rv_emit.proofs.NamedCode.{named-append, block_named}
 use Rattle.rv_emit.proofs.Placed.{Emits}
 use Rattle.rv_emit.proofs.Returned.{length-moves_in, runs_as}
 use Rattle.rv_emit.proofs.Straight.{Enough}

@@ -1,9 +1,8 @@
 -- The code of statements runs as they mean.
-use Rattle.std.proofs.Common.{◌≡◌, ℕ, ◌+◌, ◌^◌, ◌<◌, ◌≤◌, Bool, true, false, ◌&&◌, nat_lt, List, [], ◌∷◌, ◌++◌, length, map, Ok, refl, sym, subst, arith, length-append}
+use Rattle.std.proofs.Common.{◌≡◌, ◌+◌, ◌^◌, Bool, true, false, ◌&&◌, List, [], ◌∷◌, ◌++◌, length, map, Ok, refl, sym, subst, arith, length-append}
 use Rattle.std.proofs.lemmas.Bool.{ltb-true}
 use Rattle.rup_base.specs.Gather.{all_true}
 use Rattle.bed_syntax.specs.declared.weights.Weights.{Weights}
-use Rattle.flat_lang.specs.State as flat
 use Rattle.flat_lang.specs.Meaning.{Rule, in_turn, run_step, run, run_all}
 use Rattle.flat_lang.specs.Whole.{whole_step, is_whole, all_whole}
 use Rattle.flat_lang.specs.declared.flat.FStmt.{FStmt, FStmt-F, fold-roll-FStmt, map-FStmt, roll-FStmt, ind-FStmt}
@@ -11,8 +10,8 @@ use Rattle.flat_lang.specs.declared.flat.FStmt.TheOpen as f
 use Rattle.rv_machine.specs.State.{State}
 use Rattle.rv_emit.specs.Code.{Code, fetch, save, operation, in_row, stmt_code_step, stmt_code, block_code}
 use Rattle.rv_emit.specs.Fit.{fits_step, fits, all_fit}
-use Rattle.rv_emit.proofs.Site.{Site, Sound, Before}
-use Rattle.rv_emit.proofs.Runs.{HasAll, has_front, has_back, Reaches, ends_at, then_reach}
+use Rattle.rv_emit.proofs.Site.{Site, Sound}
+use Rattle.rv_emit.proofs.Runs.{has_front, has_back, ends_at, then_reach}
 use Rattle.rv_emit.proofs.Straight.{Enough, literal_reach, copy_reach, bin_reach}
 use Rattle.rv_emit.proofs.Accesses.{load_reach, table_reach, store_reach}
 use Rattle.rv_emit.proofs.Branches.{Runs, at_place, if_reach}

@@ -1,18 +1,18 @@
 -- Conditionals and loops run as they mean, where what they hold does.
-use Rattle.std.proofs.Common.{◌≡◌, ◌≢◌, ℕ, zero, suc, ◌+◌, ◌-◌, ◌*◌, ◌/◌, ◌%◌, ◌^◌, ◌<◌, ◌≤◌, List, [], ◌∷◌, ◌++◌, length, Result, Ok, Err, Some, refl, sym, ap, ◌∙◌, subst, arith, length-append}
+use Rattle.std.proofs.Common.{◌≡◌, ℕ, zero, suc, ◌+◌, ◌<◌, ◌≤◌, List, [], ◌∷◌, ◌++◌, length, Result, subst, arith, length-append}
 use Rattle.std.specs.FinMap.{get}
 use Rattle.bed_syntax.specs.declared.weights.Weights.{Weights}
 use Rattle.bed_meaning.specs.declared.halt.Halt.{Halt}
 use Rattle.flat_lang.specs.State.{Vars, spend}
 use Rattle.flat_lang.specs.State as flat
-use Rattle.flat_lang.specs.Meaning.{Rule, and_then, given, fuelled, choose, turns}
+use Rattle.flat_lang.specs.Meaning.{Rule, given, fuelled, choose}
 use Rattle.rv_code.specs.declared.instruction.Instr.{Instr}
 use Rattle.rv_machine.specs.State.{Bytes, State, register}
-use Rattle.rv_emit.specs.Code.{Code, fetch, jump, jump_back, skip, sides, turn}
+use Rattle.rv_emit.specs.Code.{Code, fetch, jump, skip, sides}
 use Rattle.rv_emit.proofs.Site.{Site, Sound, Before}
-use Rattle.rv_emit.proofs.Runs.{Has, HasAll, has_front, has_back, IsSet, Reaches, step_reach, given_reach, fuelled_reach, ends_at, later, then_reach}
+use Rattle.rv_emit.proofs.Runs.{Has, HasAll, has_front, has_back, Reaches, step_reach, given_reach, fuelled_reach, later}
 use Rattle.rv_emit.proofs.Places.{fetch_reach}
-use Rattle.rv_emit.proofs.Jumps.{Moves, jump_moves, back_moves, skip_taken, skip_passed, then_move}
+use Rattle.rv_emit.proofs.Jumps.{Moves, jump_moves, skip_taken, skip_passed, then_move}
 use Rattle.rv_emit.proofs.Straight.{Enough}
 
 -- there is an instruction behind the last

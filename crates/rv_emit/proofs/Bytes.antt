@@ -1,11 +1,11 @@
 -- Stores into two memories of which one holds the bytes of the other.
-use Rattle.std.proofs.Common.{◌≡◌, ◌≢◌, ℕ, zero, suc, ◌+◌, ◌*◌, ◌/◌, ◌%◌, ◌^◌, ◌<◌, ◌≤◌, ◌⊎◌, inl, inr, Option, Some, None, IsSome, is_some, nat_eq, if◌then◌else◌, Bool, true, false, refl, sym, ap, ◌∙◌, subst, arith}
+use Rattle.std.proofs.Common.{◌≡◌, ℕ, zero, suc, ◌+◌, ◌*◌, ◌/◌, ◌%◌, ◌^◌, ◌<◌, ◌≤◌, ◌⊎◌, inl, inr, Option, Some, None, IsSome, is_some, nat_eq, if◌then◌else◌, Bool, true, false, refl, sym, ap, ◌∙◌, subst, arith}
 use Rattle.std.proofs.lemmas.Bool.{cases_eq, eqb-true}
 use Rattle.std.specs.FinMap.{get, insert}
 use Rattle.bed_syntax.specs.declared.operation.Size.{Size}
 use Rattle.bed_syntax.specs.declared.operation.Size.TheVariants as size
 use Rattle.bed_meaning.specs.Access.{width, low_high, word, loaded, stored, store, where_some}
-use Rattle.rv_machine.specs.State.{Bytes, joined, number_at, with_number}
+use Rattle.rv_machine.specs.State.{Bytes, number_at, with_number}
 use Rattle.rv_machine.proofs.Memory.{get-insert_same, get-insert_other, number_at_four}
 
 -- the second memory has what the first has

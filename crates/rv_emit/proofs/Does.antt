@@ -1,9 +1,9 @@
 -- What loads, stores and moves do, where their addresses are in the memory.
-use Rattle.std.proofs.Common.{◌≡◌, ℕ, ◌+◌, ◌*◌, ◌/◌, ◌%◌, ◌^◌, ◌<◌, ◌≤◌, Some, IsSome, Ok, refl, ap, ◌∙◌, arith}
+use Rattle.std.proofs.Common.{◌≡◌, ℕ, ◌+◌, ◌*◌, ◌/◌, ◌%◌, ◌^◌, ◌<◌, Some, IsSome, Ok, refl, arith}
 use Rattle.rv_machine.specs.Word.{plus}
 use Rattle.rv_machine.specs.Fields.{extended}
 use Rattle.rv_machine.specs.State.{State, number_at, with_number}
-use Rattle.rv_machine.specs.Step.{Answer, gives, goes_on, branches, jumps, loaded, loads, stores}
+use Rattle.rv_machine.specs.Step.{gives, goes_on, loaded, loads, stores}
 
 pub loaded_is : (s : State) (size a v : ℕ) → a % size ≡ 0 → number_at s.mem size a ≡ Some v → loaded s size a ≡ Ok v
 unfolding loaded

@@ -9,7 +9,7 @@ use Rattle.flat_lang.specs.declared.flat.FStmt.TheVariants as v
 use Rattle.reg_alloc.specs.declared.plan.At.{At}
 use Rattle.rv_code.specs.declared.instruction.Instr.{Instr}
 use Rattle.rv_code.specs.Word.{word_of}
-use Rattle.rv_emit.specs.Code.{Code, fetch, skip, jump, jump_back, sides, turn, while_code, stmt_code_step, stmt_code, block_code}
+use Rattle.rv_emit.specs.Code.{Code, fetch, skip, jump, jump_back, sides, while_code, stmt_code_step, stmt_code, block_code}
 use Rattle.rv_emit.specs.Emission.{Adds}
 
 pub on_ok : {T : Type 0} {E : Type 0} (r : Result T E) (A B : Type 0) → (A → B) → OnOk r A → OnOk r B

@@ -1,17 +1,12 @@
 -- The arguments go into their places.
-use Rattle.std.proofs.Common.{◌≡◌, ◌≢◌, ℕ, zero, suc, ◌+◌, ◌*◌, ◌%◌, ◌^◌, ◌<◌, ◌≤◌, List, [], ◌∷◌, ◌++◌, length, Bool, true, false, Some, None, IsSome, Ok, refl, sym, ap, ◌∙◌, subst, arith}
-use Rattle.std.specs.FinMap.{get, insert, get-empty}
-use Rattle.std.specs.Ordering.{nat_cmp}
+use Rattle.std.proofs.Common.{◌≡◌, ℕ, zero, suc, ◌+◌, ◌^◌, ◌<◌, ◌≤◌, Bool, true, false, Ok, refl, subst, arith}
 use Rattle.flat_lang.specs.State.{Vars}
 use Rattle.flat_lang.specs.State as flat
-use Rattle.reg_alloc.specs.declared.plan.At.{At}
-use Rattle.rv_code.specs.declared.instruction.Instr.{Instr}
 use Rattle.rv_machine.specs.State.{Bytes, State, register}
-use Rattle.rv_emit.specs.Code.{save}
 use Rattle.rv_emit.specs.Whole.{moves_in}
 use Rattle.rv_emit.specs.Ready.{arguments}
-use Rattle.rv_emit.proofs.Site.{Site, Sound, Held, IsFree, Before}
-use Rattle.rv_emit.proofs.Runs.{Has, HasAll, Reaches, ends_at}
+use Rattle.rv_emit.proofs.Site.{Site, Sound, IsFree, Before}
+use Rattle.rv_emit.proofs.Runs.{HasAll, Reaches, ends_at}
 use Rattle.rv_emit.proofs.Places.{save_on}
 use Rattle.rv_emit.proofs.Branches.{at_place}
 

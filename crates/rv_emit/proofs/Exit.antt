@@ -1,5 +1,5 @@
 -- The results go into a0 and a1, the frame is given back, and the code returns.
-use Rattle.std.proofs.Common.{◌≡◌, ◌≢◌, ℕ, zero, suc, ◌+◌, ◌-◌, ◌*◌, ◌/◌, ◌%◌, ◌^◌, ◌<◌, ◌≤◌, List, [], ◌∷◌, ◌++◌, length, Bool, true, false, Option, Some, None, IsSome, is_some, Ok, slice_get, refl, sym, ap, ◌∙◌, subst, arith}
+use Rattle.std.proofs.Common.{◌≡◌, ◌≢◌, ℕ, zero, suc, ◌+◌, ◌*◌, ◌%◌, ◌<◌, ◌≤◌, List, [], ◌∷◌, length, true, Option, Some, None, IsSome, Ok, slice_get, refl, sym, ap, ◌∙◌, subst, arith}
 use Rattle.std.specs.List.{AllByRecursion}
 use Rattle.std.specs.FinMap.{get}
 use Rattle.flat_lang.specs.State.{Vars}
@@ -20,8 +20,8 @@ use Rattle.rv_machine.proofs.Table.{row_of}
 use Rattle.rv_emit.specs.Code.{fetch}
 use Rattle.rv_emit.specs.Whole.{moves_out}
 use Rattle.rv_emit.proofs.Does.{loads_is, slot_offset, nothing_added}
-use Rattle.rv_emit.proofs.Site.{Site, InCode, InFrame, IsValid, Sound, Memory, Held, Holds, Before}
-use Rattle.rv_emit.proofs.Runs.{Has, HasAll, has_front, has_back, set_reg, gives_is, same_in_image}
+use Rattle.rv_emit.proofs.Site.{Site, InCode, IsValid, Sound, Memory, Holds, Before}
+use Rattle.rv_emit.proofs.Runs.{HasAll, set_reg, gives_is, same_in_image}
 
 -- an instruction stands in the code
 pub record Is (code : List Instr) (k : ℕ) (i : Instr) : Type 0 where

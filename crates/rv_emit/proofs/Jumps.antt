@@ -1,5 +1,5 @@
 -- What jumps and branches do.
-use Rattle.std.proofs.Common.{◌≡◌, ◌≢◌, ℕ, zero, suc, ◌+◌, ◌-◌, ◌*◌, ◌/◌, ◌%◌, ◌^◌, ◌<◌, ◌≤◌, List, [], ◌∷◌, ◌++◌, length, Result, Ok, Err, Bool, true, false, not, ◌==◌, nat_eq, refl, sym, ap, ◌∙◌, subst, arith}
+use Rattle.std.proofs.Common.{◌≡◌, ℕ, suc, ◌+◌, ◌-◌, ◌*◌, ◌%◌, ◌^◌, ◌<◌, ◌≤◌, length, Result, Ok, Err, Bool, true, false, not, ◌==◌, refl, arith}
 use Rattle.bed_meaning.specs.declared.halt.Halt.{Halt}
 use Rattle.flat_lang.specs.State.{Vars}
 use Rattle.flat_lang.specs.State as flat
@@ -8,14 +8,14 @@ use Rattle.rv_machine.specs.Word.{plus}
 use Rattle.rv_machine.specs.Fields.{extended}
 use Rattle.rv_machine.specs.State.{Bytes, State, register}
 use Rattle.rv_machine.specs.Effect.{effect}
-use Rattle.rv_machine.specs.Step.{Answer, jumps, branches, goes_on, step}
+use Rattle.rv_machine.specs.Step.{jumps, branches}
 use Rattle.rv_machine.proofs.Runs.{leads_on}
 use Rattle.rv_emit.specs.Code.{jump, jump_back, skip}
 use Rattle.rv_emit.proofs.Does.{goes_on_is}
 use Rattle.reg_alloc.specs.declared.plan.At.{At}
 use Rattle.reg_alloc.specs.declared.plan.At.TheVariants.{Reg as Register, Slot}
 use Rattle.rv_emit.proofs.Site.{Site, InCode, Sound, Holds, Before}
-use Rattle.rv_emit.proofs.Runs.{Has, HasAll, Reaches, step_at, next_pc}
+use Rattle.rv_emit.proofs.Runs.{Has, Reaches, step_at, next_pc}
 
 abbrev pub at_pc : State → ℕ → State
 at_pc s pc = record { regs = s.regs; pc = pc; mem = s.mem }

@@ -1,19 +1,19 @@
 -- The frame is given back, and the code returns.
-use Rattle.std.proofs.Common.{◌≡◌, ◌≢◌, ℕ, zero, suc, ◌+◌, ◌-◌, ◌*◌, ◌/◌, ◌%◌, ◌^◌, ◌<◌, ◌≤◌, List, [], ◌∷◌, ◌++◌, length, Ok, Some, slice_get, refl, sym, ap, ◌∙◌, subst, arith, append_assoc, length-append}
+use Rattle.std.proofs.Common.{◌≡◌, ◌≢◌, ℕ, ◌+◌, ◌*◌, ◌/◌, ◌%◌, ◌^◌, ◌<◌, List, [], ◌∷◌, ◌++◌, length, Ok, Some, slice_get, refl, sym, ap, ◌∙◌, subst, arith, append_assoc, length-append}
 use Rattle.flat_lang.specs.State.{Vars}
 use Rattle.rv_code.specs.Field.{reg, imm12}
 use Rattle.rv_code.specs.declared.instruction.Instr.{Instr}
 use Rattle.rv_code.specs.declared.instruction.Instr.TheVariants.{Addi, Jalr}
 use Rattle.rv_machine.specs.Word.{plus}
 use Rattle.rv_machine.specs.Fields.{extended}
-use Rattle.rv_machine.specs.State.{Bytes, State, register, with_register}
+use Rattle.rv_machine.specs.State.{Bytes, State, register}
 use Rattle.rv_machine.specs.Effect.{effect}
-use Rattle.rv_machine.specs.Step.{gives, jumps}
-use Rattle.rv_machine.proofs.Registers.{length-with_register, register-with_register_other, register-with_register_same}
-use Rattle.rv_machine.proofs.Runs.{Leads, stays, leads_on, leads_then}
+use Rattle.rv_machine.specs.Step.{jumps}
+use Rattle.rv_machine.proofs.Registers.{register-with_register_other, register-with_register_same}
+use Rattle.rv_machine.proofs.Runs.{Leads, stays}
 use Rattle.rv_emit.proofs.Does.{extended_small, nothing_added}
 use Rattle.rv_emit.proofs.Site.{Site, InCode, Sound, Memory, Before}
-use Rattle.rv_emit.proofs.Runs.{Has, HasAll, set_reg, gives_is}
+use Rattle.rv_emit.proofs.Runs.{HasAll, set_reg, gives_is}
 use Rattle.rv_emit.proofs.Jumps.{at_pc}
 use Rattle.rv_emit.proofs.Exit.{Is, Stood, leads_stood, Late, stood_late}
 

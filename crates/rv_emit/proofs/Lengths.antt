@@ -1,10 +1,9 @@
 -- The code of a statement has the stated number of instructions, wherever it stands.
-use Rattle.std.proofs.Common.{◌≡◌, ℕ, ◌+◌, List, [], ◌∷◌, ◌++◌, length, map, sum, refl, sym, ap, ◌∙◌, subst, arith, length-append}
+use Rattle.std.proofs.Common.{◌≡◌, ℕ, ◌+◌, List, [], ◌∷◌, length, map, sum, refl, sym, ap, ◌∙◌, subst, arith, length-append}
 use Rattle.std.proofs.lemmas.Grind.{common_steps}
 use Rattle.flat_lang.specs.declared.flat.FStmt.{FStmt, FStmt-F, fold-roll-FStmt, map-FStmt, roll-FStmt, ind-FStmt}
 use Rattle.flat_lang.specs.declared.flat.FStmt.TheOpen as f
 use Rattle.reg_alloc.specs.declared.plan.At.{At}
-use Rattle.rv_code.specs.declared.instruction.Instr.{Instr}
 use Rattle.rv_emit.specs.Code.{Code, fetch, save, operation, skip, jump, jump_back, turn, in_row, stmt_code_step, stmt_code, block_code}
 use Rattle.rv_emit.specs.Size.{stmt_length_step, stmt_length, block_length}
 

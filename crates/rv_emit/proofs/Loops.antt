@@ -1,20 +1,19 @@
 -- A loop runs as it means, where what stands before its test and its body do.
-use Rattle.std.proofs.Common.{◌≡◌, ◌≢◌, ℕ, zero, suc, ◌+◌, ◌-◌, ◌*◌, ◌/◌, ◌%◌, ◌^◌, ◌<◌, ◌≤◌, List, [], ◌∷◌, ◌++◌, length, Result, Ok, Err, Some, refl, sym, ap, ◌∙◌, subst, arith, length-append}
+use Rattle.std.proofs.Common.{◌≡◌, ℕ, zero, suc, ◌+◌, List, [], ◌∷◌, ◌++◌, length, Ok, refl, sym, subst, arith, length-append}
 use Rattle.std.specs.FinMap.{get}
 use Rattle.bed_syntax.specs.declared.weights.Weights.{Weights}
-use Rattle.bed_meaning.specs.declared.halt.Halt.{Halt}
 use Rattle.flat_lang.specs.State.{Vars, spend}
 use Rattle.flat_lang.specs.State as flat
 use Rattle.flat_lang.specs.Meaning.{Rule, and_then, given, fuelled, choose, turns}
 use Rattle.rv_code.specs.declared.instruction.Instr.{Instr}
-use Rattle.rv_machine.specs.State.{Bytes, State, register}
+use Rattle.rv_machine.specs.State.{State, register}
 use Rattle.rv_emit.specs.Code.{Code, fetch, jump, jump_back, skip, turn}
 use Rattle.rv_emit.proofs.Site.{Site, Sound, Before}
-use Rattle.rv_emit.proofs.Runs.{Has, HasAll, has_front, has_back, IsSet, Reaches, step_reach, given_reach, fuelled_reach, ends_at, later, then_reach}
+use Rattle.rv_emit.proofs.Runs.{Has, HasAll, has_front, has_back, Reaches, given_reach, fuelled_reach, ends_at, later, then_reach}
 use Rattle.rv_emit.proofs.Places.{fetch_reach}
-use Rattle.rv_emit.proofs.Jumps.{Moves, jump_moves, back_moves, skip_taken, skip_passed, then_move}
+use Rattle.rv_emit.proofs.Jumps.{jump_moves, back_moves, skip_taken, skip_passed, then_move}
 use Rattle.rv_emit.proofs.Straight.{Enough}
-use Rattle.rv_emit.proofs.Branches.{has_room, Runs, at_place, move_on}
+use Rattle.rv_emit.proofs.Branches.{Runs, at_place, move_on}
 
 -- where the parts of a loop stand
 record Parts (code : List Instr) (k test body last : ℕ) (a b : Code) (i : Instr) : Type 0 where

@@ -1,5 +1,5 @@
 -- The code of a statement names the operations that the statement names.
-use Rattle.std.proofs.Common.{◌≡◌, ℕ, ◌+◌, zero, suc, List, [], ◌∷◌, ◌++◌, length, map, refl, sym, ap, ◌∙◌, subst, arith, append_assoc, append-nil}
+use Rattle.std.proofs.Common.{◌≡◌, ℕ, ◌+◌, List, [], ◌∷◌, ◌++◌, length, map, refl, sym, ap, ◌∙◌, subst, append_assoc, append-nil}
 use Rattle.rup_base.specs.Gather.{joined}
 use Rattle.bed_syntax.specs.Named.{Name, op_names, load_names, store_names}
 use Rattle.bed_syntax.specs.declared.operation.BOp.{BOp}
@@ -12,9 +12,8 @@ use Rattle.flat_lang.specs.declared.flat.FStmt.TheOpen as f
 use Rattle.reg_alloc.specs.declared.plan.At.{At}
 use Rattle.reg_alloc.specs.declared.plan.At.TheVariants.{Reg as Register, Slot}
 use Rattle.rv_code.specs.declared.instruction.Instr.{Instr}
-use Rattle.rv_emit.specs.Code.{Code, fetch, save, operation, load_at, store_to, skip, jump, jump_back, sides, turn, in_row, stmt_code_step, stmt_code, block_code}
+use Rattle.rv_emit.specs.Code.{Code, fetch, save, operation, load_at, store_to, skip, jump, jump_back, turn, in_row, stmt_code_step, stmt_code, block_code}
 use Rattle.rv_emit.specs.Names.{instr_names, named_in}
-use Rattle.rv_emit.specs.Whole.{slot_of, moves_in, moves_out, code_of, body_of, enter, leave}
 
 pub named-append : (a b : List Instr) → named_in (a ++ b) ≡ named_in a ++ named_in b
 named-append [] b = refl

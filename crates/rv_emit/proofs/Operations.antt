@@ -1,5 +1,5 @@
 -- The instructions of an operation give its result in t0.
-use Rattle.std.proofs.Common.{◌≡◌, ◌≢◌, ℕ, ◌+◌, ◌*◌, ◌/◌, ◌%◌, ◌^◌, ◌<◌, ◌≤◌, List, [], ◌∷◌, ◌++◌, length, Result, Ok, Err, refl, sym, ap, ◌∙◌, subst, arith}
+use Rattle.std.proofs.Common.{◌≡◌, ℕ, ◌+◌, ◌^◌, ◌<◌, List, ◌∷◌, ◌++◌, length, Result, refl, sym, ap, subst, arith}
 use Rattle.bed_syntax.specs.declared.operation.BOp.{BOp}
 use Rattle.bed_syntax.specs.declared.operation.BOp.TheVariants as op
 use Rattle.bed_syntax.specs.Operation.{apply}
@@ -9,14 +9,14 @@ use Rattle.flat_lang.specs.State as flat
 use Rattle.rv_code.specs.Field.{reg, imm12}
 use Rattle.rv_code.specs.declared.instruction.Instr.{Instr}
 use Rattle.rv_code.specs.declared.instruction.Instr.TheVariants.{Sltiu, Add, Sub, Sll, Slt, Sltu, Xor, Srl, Sra, Or, And, Mul, Mulhu, Divu, Remu}
-use Rattle.rv_machine.specs.Word.{minus, less}
+use Rattle.rv_machine.specs.Word.{minus}
 use Rattle.rv_machine.specs.State.{Bytes, State, register}
 use Rattle.rv_machine.specs.Effect.{effect}
 use Rattle.rv_machine.specs.Step.{gives}
 use Rattle.rv_emit.specs.Code.{operation}
 use Rattle.rv_emit.proofs.Words.{minus_is, less_is, shifted_is, less_signed_is}
 use Rattle.rv_emit.proofs.Site.{Site, Sound, Before}
-use Rattle.rv_emit.proofs.Runs.{Has, HasAll, IsSet, Reaches, set_reach}
+use Rattle.rv_emit.proofs.Runs.{HasAll, Reaches, set_reach}
 
 module _ (l : Site) (m : State) (sound : Sound l m) where
   -- what follows an operation that took so many instructions

@@ -1,30 +1,24 @@
 -- Code that stands for a call, as a site; and the ready state, as one at which the code is entered.
-use Rattle.std.proofs.Common.{◌≡◌, ◌≢◌, ℕ, zero, suc, ◌+◌, ◌-◌, ◌*◌, ◌/◌, ◌%◌, ◌^◌, ◌<◌, ◌≤◌, ◌⊎◌, inl, inr, Bool, true, false, List, [], ◌∷◌, ◌++◌, map, length, Option, Some, None, IsSome, is_some, Ok, slice_get, refl, sym, ap, ◌∙◌, subst, arith, length-append}
+use Rattle.std.proofs.Common.{◌≡◌, ℕ, zero, suc, ◌+◌, ◌-◌, ◌*◌, ◌^◌, ◌<◌, ◌≤◌, inl, inr, false, List, [], ◌∷◌, map, length, Option, Some, None, IsSome, slice_get, refl, ap, ◌∙◌, subst, arith, length-append}
 use Rattle.std.specs.Prelude.{option_map}
 use Rattle.std.specs.List.{AllByRecursion, flat_map}
 use Rattle.std.specs.Int.{w32, to_le_bytes}
-use Rattle.std.specs.FinMap.{get, insert, get-empty}
+use Rattle.std.specs.FinMap.{get, get-empty}
 use Rattle.std.specs.Ordering.{nat_cmp}
 use Rattle.std.proofs.lemmas.Option.{slice_get-map, slice_get_within}
 use Rattle.std.proofs.lemmas.List.{length-map}
-use Rattle.flat_lang.specs.State.{Vars}
-use Rattle.flat_lang.specs.Whole.{IsWhole}
 use Rattle.flat_lang.specs.declared.flat.Flat.{Flat}
-use Rattle.reg_alloc.specs.declared.plan.At.{At}
-use Rattle.reg_alloc.specs.declared.plan.At.TheVariants.{Reg as Register, Slot}
-use Rattle.rv_code.specs.Field.{reg, imm12}
 use Rattle.rv_code.specs.declared.instruction.Instr.{Instr}
-use Rattle.rv_code.specs.declared.instruction.Instr.TheVariants.{Addi}
 use Rattle.rv_code.specs.Word.{word_of}
-use Rattle.rv_machine.specs.State.{Bytes, State, register, with_register, number_at}
+use Rattle.rv_machine.specs.State.{Bytes, State, register, number_at}
 use Rattle.rv_machine.proofs.Registers.{length-with_register, register-with_register_other, register-with_register_same}
 use Rattle.rv_emit.specs.Whole.{frame_bytes, slot_of, table_far, code_of}
 use Rattle.rv_emit.specs.Tables.{text_of}
-use Rattle.rv_emit.specs.Ready.{Range, Within, IsMapped, Apart, AllApart, Stands, code_bytes, stack_range, Ready, InOne, IsPart, arguments}
+use Rattle.rv_emit.specs.Ready.{Range, Within, Apart, Stands, stack_range, Ready, InOne, IsPart, arguments}
 use Rattle.rv_emit.proofs.Standing.{stands_front, stands_back, words_stand, length-word_bytes}
-use Rattle.rv_emit.proofs.TableText.{TextAt, text_at}
+use Rattle.rv_emit.proofs.TableText.{text_at}
 use Rattle.rv_emit.proofs.WordSmall.{word_small}
-use Rattle.rv_emit.proofs.Site.{Site, InImage, InFrame, IsValid, TableAt, Sound, Memory, Held, IsFree, Before}
+use Rattle.rv_emit.proofs.Site.{Site, InImage, InFrame, TableAt, Sound, Memory, Before}
 use Rattle.rv_emit.proofs.Runs.{set_reg}
 
 -- the emitted code fits its three-address code, and this is no longer than a jump reaches

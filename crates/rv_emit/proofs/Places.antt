@@ -1,5 +1,5 @@
 -- A value is fetched from its place, and saved into one.
-use Rattle.std.proofs.Common.{◌≡◌, ◌≢◌, ℕ, zero, suc, ◌+◌, ◌*◌, ◌/◌, ◌%◌, ◌^◌, ◌<◌, ◌≤◌, ◌⊎◌, inl, inr, Some, None, IsSome, is_some, Result, Ok, Err, Bool, true, false, refl, sym, ap, ◌∙◌, subst, arith}
+use Rattle.std.proofs.Common.{◌≡◌, ◌≢◌, ℕ, ◌+◌, ◌*◌, ◌%◌, ◌^◌, ◌<◌, ◌≤◌, ◌⊎◌, inl, inr, Some, IsSome, is_some, Result, Ok, true, false, refl, sym, ap, ◌∙◌, subst, arith}
 use Rattle.std.proofs.lemmas.Bool.{cases_eq}
 use Rattle.std.specs.FinMap.{get, insert}
 use Rattle.bed_meaning.specs.declared.halt.Halt.{Halt}
@@ -7,10 +7,9 @@ use Rattle.flat_lang.specs.State.{Vars, spend, with_var}
 use Rattle.flat_lang.specs.State as flat
 use Rattle.reg_alloc.specs.declared.plan.At.{At}
 use Rattle.reg_alloc.specs.declared.plan.At.TheVariants.{Reg as Register, Slot}
-use Rattle.rv_code.specs.declared.instruction.Instr.{Instr}
 use Rattle.rv_machine.specs.Word.{plus}
 use Rattle.rv_machine.specs.Fields.{extended}
-use Rattle.rv_machine.specs.State.{Bytes, State, register, with_register, number_at, with_number}
+use Rattle.rv_machine.specs.State.{Bytes, State, register, number_at, with_number}
 use Rattle.rv_machine.specs.Effect.{effect}
 use Rattle.rv_machine.specs.Step.{gives}
 use Rattle.rv_machine.proofs.Memory.{get-insert_same, get-insert_other, get-with_number_other, mapped-with_number, mapped_before_with_number, number_at-with_number, number_at-with_number_other, is_some-number_at}
@@ -18,7 +17,7 @@ use Rattle.rv_machine.proofs.Registers.{length-with_register, register-with_regi
 use Rattle.rv_emit.specs.Code.{fetch, save}
 use Rattle.rv_emit.proofs.Bytes.{bytes-with_number}
 use Rattle.rv_emit.proofs.Does.{loads_is, stores_is, with_stored, slot_offset, nothing_added}
-use Rattle.rv_emit.proofs.Site.{Site, InFrame, Sound, Memory, Held, Holds, IsFree, IsValid, Before}
+use Rattle.rv_emit.proofs.Site.{Site, Sound, Memory, Held, Holds, IsFree, IsValid, Before}
 use Rattle.rv_emit.proofs.Runs.{Has, IsSet, set_reg, Reaches, gives_is, next_pc, step_reach, set_reach, ends_at}
 
 module _ (l : Site) (m : State) (sound : Sound l m) where

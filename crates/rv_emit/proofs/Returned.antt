@@ -1,7 +1,6 @@
 -- The call of emitted code returns.
-use Rattle.std.proofs.Common.{◌≡◌, ◌≢◌, ℕ, zero, suc, ◌+◌, ◌-◌, ◌*◌, ◌/◌, ◌%◌, ◌^◌, ◌<◌, ◌≤◌, ◌⊎◌, inl, inr, Bool, true, false, List, [], ◌∷◌, ◌++◌, map, length, Option, Some, None, IsSome, is_some, Result, Ok, Err, All, slice_get, refl, sym, ap, ◌∙◌, subst, arith, append_assoc, length-append}
+use Rattle.std.proofs.Common.{◌≡◌, ◌≢◌, ℕ, zero, suc, ◌+◌, ◌-◌, ◌%◌, ◌^◌, ◌<◌, ◌≤◌, ◌⊎◌, inl, inr, true, false, List, [], ◌∷◌, ◌++◌, map, length, Result, Ok, Err, All, refl, sym, ap, ◌∙◌, subst, arith, append_assoc, length-append}
 use Rattle.std.specs.List.{AllByRecursion}
-use Rattle.std.specs.FinMap.{get}
 use Rattle.std.proofs.lemmas.Bool.{cases_eq}
 use Rattle.std.proofs.lemmas.List.{length-map}
 use Rattle.bed_syntax.specs.declared.weights.Weights.{Weights}
@@ -17,23 +16,21 @@ use Rattle.rv_code.specs.declared.instruction.Instr.TheVariants.{Addi, Jalr}
 use Rattle.rv_code.specs.Word.{word_of}
 use Rattle.rv_machine.specs.Word.{plus}
 use Rattle.rv_machine.specs.Fields.{extended}
-use Rattle.rv_machine.specs.State.{Bytes, State, register, with_register, number_at}
-use Rattle.rv_machine.specs.Effect.{effect}
-use Rattle.rv_machine.specs.Step.{step, gives}
+use Rattle.rv_machine.specs.State.{Bytes, State, register}
 use Rattle.rv_machine.proofs.Registers.{register-with_register_same, register-with_register_other}
-use Rattle.rv_machine.proofs.Runs.{Leads, stays, leads_on, leads_then}
+use Rattle.rv_machine.proofs.Runs.{Leads, stays, leads_then}
 use Rattle.rv_emit.specs.Fit.{all_fit}
-use Rattle.rv_emit.specs.Whole.{frame_bytes, slot_of, moves_in, moves_out, enter, leave, body_of, code_of}
-use Rattle.rv_emit.specs.Ready.{Range, Within, stack_range, Ready, IsPart, arguments}
+use Rattle.rv_emit.specs.Whole.{frame_bytes, slot_of, moves_in, moves_out, body_of, code_of}
+use Rattle.rv_emit.specs.Ready.{Range, Ready, IsPart, arguments}
 use Rattle.rv_emit.specs.Returns.{IsSaved, IsUnderWay, Returns, RunsAs}
 use Rattle.rv_emit.proofs.Site.{Site, InCode, Sound, Memory, IsFree, Before}
-use Rattle.rv_emit.proofs.Runs.{Has, HasAll, has_front, has_back, Reaches, set_reg, gives_is}
+use Rattle.rv_emit.proofs.Runs.{Has, HasAll, has_front, has_back, Reaches, gives_is}
 use Rattle.rv_emit.proofs.Straight.{Enough}
 use Rattle.rv_emit.proofs.Blocks.{block_runs}
 use Rattle.rv_emit.proofs.Entry.{arguments_reach}
-use Rattle.rv_emit.proofs.Exit.{Is, Stood, leads_stood, Late, Results, results_lead}
+use Rattle.rv_emit.proofs.Exit.{Is, leads_stood, Late, Results, results_lead}
 use Rattle.rv_emit.proofs.Leave.{has_all, is_last, Left, leaves}
-use Rattle.rv_emit.proofs.Placed.{Emits, base, here, taken, sound, first_memory, begins, in_stack, same_arguments}
+use Rattle.rv_emit.proofs.Placed.{Emits, here, taken, sound, first_memory, begins, in_stack, same_arguments}
 
 frame_taken : (sp stack : ℕ) → sp < 2 ^ 32 → stack ≤ sp → stack < 2048 → plus sp (extended 2048 ((4096 - stack) % 4096)) ≡ sp - stack
 frame_taken sp stack word fits small = grind arith

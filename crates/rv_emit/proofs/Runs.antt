@@ -1,7 +1,6 @@
 -- How instructions run, one after another, from a state that stands before them.
-use Rattle.std.proofs.Common.{◌≡◌, ◌≢◌, ℕ, zero, suc, ◌+◌, ◌*◌, ◌/◌, ◌%◌, ◌^◌, ◌<◌, ◌≤◌, ◌⊎◌, inl, inr, List, [], ◌∷◌, ◌++◌, length, Option, Some, None, IsSome, Result, Ok, Err, Bool, true, false, slice_get, refl, sym, ap, ◌∙◌, subst, arith}
-use Rattle.std.proofs.lemmas.Bool.{cases_eq}
-use Rattle.std.specs.FinMap.{get, insert}
+use Rattle.std.proofs.Common.{◌≡◌, ◌≢◌, ℕ, zero, suc, ◌+◌, ◌*◌, ◌%◌, ◌<◌, ◌≤◌, List, [], ◌∷◌, ◌++◌, length, Option, Some, None, Result, Ok, Err, true, slice_get, refl, ap, ◌∙◌, subst, arith}
+use Rattle.std.specs.FinMap.{get}
 use Rattle.bed_meaning.specs.declared.halt.Halt.{Halt}
 use Rattle.flat_lang.specs.State.{Vars, spend, with_var}
 use Rattle.flat_lang.specs.State as flat
@@ -11,15 +10,15 @@ use Rattle.reg_alloc.specs.declared.plan.At.TheVariants.{Reg as Register, Slot}
 use Rattle.rv_code.specs.declared.instruction.Instr.{Instr}
 use Rattle.rv_code.specs.Word.{word_of}
 use Rattle.rv_machine.specs.Word.{plus}
-use Rattle.rv_machine.specs.State.{Bytes, State, register, with_register, number_at, with_number}
+use Rattle.rv_machine.specs.State.{Bytes, State, register, with_register, number_at}
 use Rattle.rv_machine.specs.Effect.{effect}
-use Rattle.rv_machine.specs.Step.{Answer, gives, goes_on, executed, step}
-use Rattle.rv_machine.proofs.Memory.{number_at_agree, get-insert_same, get-insert_other}
+use Rattle.rv_machine.specs.Step.{Answer, gives, step}
+use Rattle.rv_machine.proofs.Memory.{number_at_agree}
 use Rattle.rv_machine.proofs.Registers.{length-with_register, register-with_register_other, register-with_register_same}
 use Rattle.rv_machine.proofs.Rows.{step_by}
 use Rattle.rv_machine.proofs.Runs.{Leads, stays, leads_on, leads_then}
 use Rattle.rv_machine.proofs.Table.{row_of}
-use Rattle.rv_emit.proofs.Site.{Site, InImage, InCode, InFrame, Sound, Memory, Held, Holds, IsFree, IsValid, Before}
+use Rattle.rv_emit.proofs.Site.{Site, InImage, InCode, Sound, Memory, Holds, IsValid, Before}
 
 -- an instruction stands in the code, and another behind it
 pub record Has (code : List Instr) (k : ℕ) (i : Instr) : Type 0 where

@@ -1,15 +1,13 @@
 -- Literals, copies and operations run as they mean.
-use Rattle.std.proofs.Common.{◌≡◌, ◌≢◌, ℕ, ◌+◌, ◌*◌, ◌/◌, ◌%◌, ◌^◌, ◌<◌, ◌≤◌, List, [], ◌∷◌, ◌++◌, length, Result, Ok, Err, Some, refl, sym, ap, ◌∙◌, subst, arith, length-append}
+use Rattle.std.proofs.Common.{◌≡◌, ℕ, ◌+◌, ◌*◌, ◌%◌, ◌^◌, ◌<◌, ◌≤◌, [], ◌∷◌, ◌++◌, length, refl, ap, ◌∙◌, subst, arith}
 use Rattle.std.specs.FinMap.{get}
 use Rattle.bed_syntax.specs.declared.operation.BOp.{BOp}
 use Rattle.bed_syntax.specs.declared.operation.BOp.TheVariants as op
 use Rattle.bed_syntax.specs.Operation.{apply}
 use Rattle.bed_syntax.specs.declared.weights.Weights.{Weights}
-use Rattle.bed_meaning.specs.declared.halt.Halt.{Halt}
 use Rattle.flat_lang.specs.State as flat
 use Rattle.flat_lang.specs.Meaning.{given, fuelled, sets}
 use Rattle.rv_code.specs.Field.{reg, imm12, imm20}
-use Rattle.rv_code.specs.declared.instruction.Instr.{Instr}
 use Rattle.rv_code.specs.declared.instruction.Instr.TheVariants.{Lui, Addi}
 use Rattle.rv_machine.specs.State.{State, register}
 use Rattle.rv_machine.specs.Effect.{effect}
@@ -18,7 +16,7 @@ use Rattle.rv_emit.specs.Code.{fetch, save, operation, upper}
 use Rattle.rv_emit.proofs.Does.{parts_sum}
 use Rattle.rv_emit.proofs.Words.{apply_word}
 use Rattle.rv_emit.proofs.Site.{Site, Sound, Before}
-use Rattle.rv_emit.proofs.Runs.{Has, HasAll, IsSet, Reaches, set_reach, given_reach, fuelled_reach}
+use Rattle.rv_emit.proofs.Runs.{HasAll, Reaches, set_reach, given_reach, fuelled_reach}
 use Rattle.rv_emit.proofs.Places.{fetch_reach, save_reach}
 use Rattle.rv_emit.proofs.Operations.{operation_reach}
 

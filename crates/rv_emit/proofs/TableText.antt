@@ -1,8 +1,8 @@
 -- Where a table stands in the text of the tables.
-use Rattle.std.proofs.Common.{◌≡◌, ℕ, zero, suc, ◌+◌, ◌-◌, ◌*◌, ◌%◌, ◌<◌, ◌≤◌, List, [], ◌∷◌, ◌++◌, length, Bool, true, false, ◌==◌, if◌then◌else◌, Some, slice_get, refl, sym, ap, ◌∙◌, subst, arith, length-append}
+use Rattle.std.proofs.Common.{◌≡◌, ℕ, zero, suc, ◌+◌, ◌%◌, ◌≤◌, List, [], ◌∷◌, length, Bool, true, false, ◌==◌, if◌then◌else◌, Some, slice_get, refl, ap, ◌∙◌, arith, length-append}
 use Rattle.std.specs.Prelude.{slice_index_or}
 use Rattle.std.proofs.lemmas.Bool.{eqb-true, eqb-false}
-use Rattle.rv_emit.specs.Tables.{fill, filled, text_of, offsets_from}
+use Rattle.rv_emit.specs.Tables.{fill, filled, text_of, offsets_from, AreAligned}
 use Rattle.rv_emit.proofs.Standing.{slice_get-append_left, slice_get-append_right}
 
 record Filling (n : ℕ) (zeros : List ℕ) : Type 0 where
@@ -62,3 +62,6 @@ text_at (first ∷ tables) bytes start (suc k) found =
           let place : length (filled first) + rest.offset + a ≡ length (filled first) + (rest.offset + a) = omega arith in
           rw place (slice_get-append_right (filled first) (text_of tables) (rest.offset + a) ∙ rest.there a b at);
     }
+
+pub tables_aligned : (tables : List (List ℕ)) → AreAligned tables (text_of tables)
+tables_aligned tables k bytes found = let t = text_at tables bytes 0 k found in (t.offset, t.aligned, t.there)

@@ -1,13 +1,12 @@
 -- The operations of three-address code are those of the machine, and their results are words.
-use Rattle.std.proofs.Common.{◌≡◌, ℕ, ◌+◌, ◌-◌, ◌*◌, ◌/◌, ◌%◌, ◌^◌, ◌<◌, ◌≤◌, ℤ, pos, negsuc, Bool, true, false, nat_eq, nat_lt, bit_and, bit_or, bit_xor, if◌then◌else◌, ◌==◌, refl, sym, ap, ◌∙◌, arith}
+use Rattle.std.proofs.Common.{◌≡◌, ℕ, ◌-◌, ◌*◌, ◌/◌, ◌%◌, ◌^◌, ◌<◌, pos, negsuc, Bool, true, false, nat_eq, nat_lt, if◌then◌else◌, ap, ◌∙◌, arith}
 use Rattle.std.specs.Prelude.{int_lt}
-use Rattle.std.proofs.lemmas.Bool.{ltb-true, ltb-false}
 use Rattle.std.proofs.lemmas.Nat.{or_of_32, xor_of_32, and_le_l, mul-lt}
 use Rattle.std.proofs.Math.Nat.{div-le_self, mod-le}
 use Rattle.rup_base.specs.Word as base
 use Rattle.bed_syntax.specs.declared.operation.BOp.{BOp}
 use Rattle.bed_syntax.specs.declared.operation.BOp.TheVariants as op
-use Rattle.bed_syntax.specs.Operation.{apply, shift_signed, flag}
+use Rattle.bed_syntax.specs.Operation.{apply}
 use Rattle.rv_machine.specs.Word.{word, floor, signed, one_if, minus, less, shifted_signed, less_signed}
 
 quotient_word : (a d : ℕ) → a < 2 ^ 32 → a / d < 2 ^ 32

@@ -1,6 +1,6 @@
 -- The instructions of three-address code. A value is fetched into t0 or t1, which are x5 and x6, and saved from t0; the
 -- stack pointer is x2. An instruction has a number, counted from the first of the whole code, and four bytes.
-use Rattle.std.specs.Prelude.{ℕ, ◌+◌, ◌-◌, ◌*◌, ◌/◌, ◌%◌, List, [], ◌∷◌, ◌++◌, length, map}
+use Rattle.std.specs.Prelude.{ℕ, ◌+◌, ◌-◌, ◌*◌, ◌/◌, List, [], ◌∷◌, ◌++◌, length, map}
 use Rattle.bed_syntax.specs.declared.operation.BOp.{BOp}
 use Rattle.bed_syntax.specs.declared.operation.BOp.TheVariants as op
 use Rattle.bed_syntax.specs.declared.operation.Size.{Size}

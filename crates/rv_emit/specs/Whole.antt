@@ -1,6 +1,6 @@
 -- The whole code: the frame is taken, the arguments go from a0 to a7, which are x10 to x17, into their places, the body
 -- runs, the results go into a0 and a1, the frame is given back, and ra, which is x1, is where it returns to.
-use Rattle.std.specs.Prelude.{ℕ, zero, suc, ◌+◌, ◌-◌, ◌*◌, ◌/◌, List, [], ◌∷◌, ◌++◌, length, slice_index_or}
+use Rattle.std.specs.Prelude.{ℕ, zero, suc, ◌+◌, ◌-◌, ◌*◌, ◌/◌, List, [], ◌∷◌, ◌++◌, slice_index_or}
 use Rattle.flat_lang.specs.declared.flat.Flat.{Flat}
 use Rattle.reg_alloc.specs.declared.plan.At.{At}
 use Rattle.reg_alloc.specs.declared.plan.At.TheVariants.{Slot}

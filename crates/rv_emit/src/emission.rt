@@ -10,7 +10,7 @@ ghost use Rattle.rv_emit.specs.Fit.{all_fit};
 ghost use Rattle.rv_emit.specs.Names.{named_in};
 ghost use Rattle.rv_emit.specs.Returns.{RunsAs};
 ghost use Rattle.rv_emit.specs.Size.{block_length};
-ghost use Rattle.rv_emit.specs.Tables.{text_of};
+ghost use Rattle.rv_emit.specs.Tables.{text_of, AreAligned};
 ghost use Rattle.rv_emit.specs.Whole as spec;
 ghost use Rattle.rv_emit.specs.Whole.{slot_of, frame_bytes, code_of};
 
@@ -113,6 +113,7 @@ pub fn emit(alloc: Global, f: &Flat, p: &Plan) -> Result<Emitted, NoMemory>
 
     // Each table begins at a multiple of 4.
     ensures tables { IfOk result (λ e. e.tables ≡ text_of f.now.tables) }
+    ensures tables_aligned { IfOk result (λ e. AreAligned f.now.tables e.tables) }
     ensures tables_small { IfOk result (λ e. length e.tables ≤ sum (map length f.now.tables) + 3 * length f.now.tables) }
 
     // The operations that are known by their instructions are those of the three-address code, in its order.

@@ -16,7 +16,9 @@ use std::process::Abort;
 use std::test::Fail;
 
 const CODE: u32 = 0x1_0000;
+
 const STACK: u32 = 0x10_0000;
+
 const RETURN: u32 = 0x100;
 
 fn bytes_of(alloc: Global, code: &[Instr]) -> Result<Text, NoMemory> {
@@ -36,11 +38,18 @@ fn zeros(alloc: Global, count: u32) -> Result<Text, NoMemory> {
 }
 
 // A machine at the entry of the code, with the stack and nothing else.
-fn machine(rt: &impl Abort, alloc: Global, emitted: &Emitted, args: &[u32]) -> Result<Machine, Fail> {
+fn machine(
+    rt: &impl Abort,
+    alloc: Global,
+    emitted: &Emitted,
+    args: &[u32],
+) -> Result<Machine, Fail> {
     let mut image = bytes_of(alloc, emitted.code.as_slice())?;
     image.extend_from_slice(emitted.tables.as_slice())?;
     let stack = zeros(alloc, emitted.stack)?;
-    assert!(rt; image.len() <= 0xe_0000 && stack.len() <= 4096 && emitted.stack <= 4096 && args.len() <= 8);
+    assert!(rt;
+        image.len() <= 0xe_0000 && stack.len() <= 4096 && emitted.stack <= 4096 && args.len() <= 8
+    );
     let mut regions = List::new(alloc);
     regions.push((CODE, image))?;
     regions.push((STACK, stack))?;
@@ -103,9 +112,21 @@ fn operations_at_their_corners(rt: HostRuntime) -> Result<(), Fail> {
         (BOp::And, 0b1100, 0b1010, 0b1000, "and"),
         (BOp::Or, 0b1100, 0b1010, 0b1110, "or"),
         (BOp::Xor, 0b1100, 0b1010, 0b0110, "xor"),
-        (BOp::Sru, 0x8000_0000, 63, 1, "sru takes five bits of the amount"),
+        (
+            BOp::Sru,
+            0x8000_0000,
+            63,
+            1,
+            "sru takes five bits of the amount",
+        ),
         (BOp::Slu, 1, 63, 0x8000_0000, "slu"),
-        (BOp::Srs, 0x8000_0000, 31, 0xffff_ffff, "srs copies the sign"),
+        (
+            BOp::Srs,
+            0x8000_0000,
+            31,
+            0xffff_ffff,
+            "srs copies the sign",
+        ),
         (BOp::Lts, 0x8000_0000, 0, 1, "lts"),
         (BOp::Ltu, 0x8000_0000, 0, 0, "ltu"),
         (BOp::Eq, 0x8000_0000, 0x8000_0000, 1, "eq of equal words"),
@@ -114,6 +135,70 @@ fn operations_at_their_corners(rt: HostRuntime) -> Result<(), Fail> {
     for (op, a, b, expected, text) in rows {
         let f = operation(rt.alloc(), op)?;
         assert_eq!(&rt; run(&rt, rt.alloc(), &f, &[a, b])?, expected, "{text}");
+    }
+    Ok(())
+}
+
+// The last variable but one becomes the eighth argument less the first.
+fn many_variables(alloc: Global) -> Result<Flat, NoMemory>
+    ensures whole { IfOk result (λ f. IsWhole f) }
+    ensures few { IfOk result (λ f. f.vars ≡ 400) }
+    ensures light { IfOk result (λ f. code_weight Weights.LARGE f.body ≤ 100) }
+{
+    let mut body = List::new(alloc);
+    body.push(FStmt::Bin(BOp::Sub, 399, 7, 0))?;
+    body.push(FStmt::Copy(398, 399))?;
+    let mut rets = List::new(alloc);
+    rets.push(398)?;
+    Ok(Flat {
+        body,
+        vars: 400,
+        args: 8,
+        rets,
+        tables: List::new(alloc),
+    })
+}
+
+#[test]
+fn eight_arguments_and_four_hundred_variables(rt: HostRuntime) -> Result<(), Fail> {
+    let f = many_variables(rt.alloc())?;
+    let args = [5, 1, 2, 3, 4, 5, 6, 12];
+    assert_eq!(&rt; run(&rt, rt.alloc(), &f, &args)?, 7);
+    Ok(())
+}
+
+// The entry at an offset of the second table.
+fn look_up(alloc: Global, size: Size) -> Result<Flat, NoMemory>
+    ensures whole { IfOk result (λ f. IsWhole f) }
+    ensures few { IfOk result (λ f. f.vars ≡ 2) }
+    ensures light { IfOk result (λ f. code_weight Weights.LARGE f.body ≤ 100) }
+{
+    let mut body = List::new(alloc);
+    body.push(FStmt::Table(size, 1, 1, 0))?;
+    let mut rets = List::new(alloc);
+    rets.push(1)?;
+    let mut tables = List::new(alloc);
+    tables.push(zeros(alloc, 4099)?)?;
+    tables.push(Text::from_slice(alloc, &[1, 2, 3, 4])?)?;
+    Ok(Flat {
+        body,
+        vars: 2,
+        args: 1,
+        rets,
+        tables,
+    })
+}
+
+#[test]
+fn a_table_far_from_the_code(rt: HostRuntime) -> Result<(), Fail> {
+    let rows = [
+        (Size::One, 3, 0x04, "a byte"),
+        (Size::Two, 2, 0x0403, "two bytes"),
+        (Size::Four, 0, 0x0403_0201, "a word"),
+    ];
+    for (size, offset, expected, text) in rows {
+        let f = look_up(rt.alloc(), size)?;
+        assert_eq!(&rt; run(&rt, rt.alloc(), &f, &[offset])?, expected, "{text}");
     }
     Ok(())
 }

@@ -1,8 +1,7 @@
-use Rattle.std.proofs.Common.{rules, arith, ap, sym, ◌∙◌, ◌≡◌, ◌+◌, ◌-◌, ◌%◌, length, true, refl, subst}
+use Rattle.std.proofs.Common.{arith, ap, ◌∙◌, ◌≡◌, ◌+◌, ◌-◌, length, refl, subst}
 use Rattle.flat_lang.specs.Whole.{all_whole}
 use Rattle.rv_code.specs.Field.{reg, imm12}
 use Rattle.rv_code.specs.declared.instruction.Instr.TheVariants.{Addi, Jalr}
-use Rattle.rv_code.specs.Word.{word_of}
 use Rattle.rv_emit.specs.Emission.{Adds}
 use Rattle.rv_emit.specs.Size.{block_length}
 use Rattle.rv_emit.specs.Tables.{offsets_from}

@@ -1,4 +1,4 @@
-use Rattle.std.proofs.Common.{rules, arith, ap, sym, ◌∙◌, ◌≡◌, ◌+◌, ◌*◌, ◌≤◌, ◌<◌, length, map, sum, true, Result, Ok, Err, IfOk}
+use Rattle.std.proofs.Common.{arith, ap, sym, ◌∙◌, ◌≡◌, ◌+◌, ◌*◌, ◌≤◌, length, map, sum, true, Result, Ok, Err, IfOk, subst}
 use Rattle.bed_syntax.specs.declared.weights.TheConstants as weights
 use Rattle.flat_lang.specs.Count.{code_weight, code_names}
 use Rattle.flat_lang.specs.Whole.{IsWhole}
@@ -7,10 +7,11 @@ use Rattle.rv_code.specs.Word.{word_of}
 use Rattle.rv_emit.specs.Fit.{all_fit}
 use Rattle.rv_emit.specs.Names.{named_in}
 use Rattle.rv_emit.specs.Returns.{RunsAs}
-use Rattle.rv_emit.specs.Tables.{text_of}
+use Rattle.rv_emit.specs.Tables.{text_of, AreAligned}
 use Rattle.rv_emit.specs.Whole.{frame_bytes, code_of}
 use Rattle.rv_emit.specs.declared.emission.Emitted.{Emitted}
 use Rattle.rv_emit.proofs.Assembly.{length-slots, plan_of, runs, text_few, named}
+use Rattle.rv_emit.proofs.TableText.{tables_aligned}
 use Rattle.rv_emit.proofs.emission.emit.Goals as goal
 
 -- src/emission.rt:121:5
@@ -44,3 +45,10 @@ named_by (Ok e) f code = named f e.code code
 
 pub returns-clause-names : goal.returns-clause-names
 returns-clause-names c = named_by c.assemble.result c.args.f.now c.assemble.ensures.code
+
+aligned_by : {E : Type 0} (r : Result Emitted E) (f : Flat) → IfOk r (λ e. e.tables ≡ text_of f.tables) → IfOk r (λ e. AreAligned f.tables e.tables)
+aligned_by (Err e) f tables = tables
+aligned_by (Ok e) f tables = subst (λ text. AreAligned f.tables text) (sym tables) (tables_aligned f.tables)
+
+pub returns-clause-tables_aligned : goal.returns-clause-tables_aligned
+returns-clause-tables_aligned c = aligned_by c.assemble.result c.args.f.now c.assemble.ensures.tables

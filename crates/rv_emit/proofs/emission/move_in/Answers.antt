@@ -1,4 +1,4 @@
-use Rattle.std.proofs.Common.{rules, arith, ap, sym, ◌∙◌, ◌≡◌, [], ◌∷◌, ◌+◌, ◌-◌, ◌≤◌, ◌++◌, suc, length, map}
+use Rattle.std.proofs.Common.{arith, ap, ◌∙◌, ◌≡◌, ◌+◌, ◌-◌, ◌++◌, suc, map}
 use Rattle.rv_code.specs.Word.{word_of}
 use Rattle.rv_emit.specs.Code as code
 use Rattle.rv_emit.specs.Whole.{slot_of, moves_in}

@@ -1,5 +1,4 @@
-use Rattle.std.proofs.Common.{rules, arith, ap, sym, subst, ◌∙◌, refl, ◌≡◌, [], ◌∷◌, ◌++◌, ◌+◌, ◌*◌, ◌%◌, ◌<◌, ◌≤◌, ◌^◌, OnOk, length, map, true, ◌&&◌, ℕ, ◌-◌, ◌/◌, Bool, false, nat_eq, nat_lt, List, drop, slice_index_or}
-use Rattle.flat_lang.specs.declared.flat.FStmt.{FStmt}
+use Rattle.std.proofs.Common.{arith, ap, sym, subst, ◌∙◌, ◌≡◌, ◌∷◌, ◌++◌, ◌+◌, length, map, true, drop}
 use Rattle.flat_lang.specs.Whole.{is_whole, all_whole}
 use Rattle.flat_lang.specs.Count.{stmt_weight, code_weight}
 use Rattle.rv_emit.specs.Code.{sides, while_code, stmt_code, block_code}
@@ -7,7 +6,7 @@ use Rattle.rv_emit.specs.Code as spec
 use Rattle.rv_emit.specs.Size.{stmt_length, block_length}
 use Rattle.rv_emit.specs.Fit.{fits, all_fit}
 use Rattle.rv_emit.specs.Whole.{slot_of}
-use Rattle.rv_emit.specs.Emission.{IsNear, IsPlan, Adds, far_of}
+use Rattle.rv_emit.specs.Emission.{Adds, far_of}
 use Rattle.rv_emit.proofs.Emitting.{on_ok, adds_one, block_step, if_adds, while_adds, if_code, loop_code, item_dropped, sum_cons, second_true, first_gone}
 use Rattle.rv_code.specs.Word.{word_of}
 use Rattle.bed_syntax.specs.declared.weights.TheConstants as weights

@@ -1,4 +1,4 @@
-use Rattle.std.proofs.Common.{◌≡◌, ◌+◌, ◌≤◌, ◌&&◌, ◌++◌, true, drop, map, sum, length}
+use Rattle.std.proofs.Common.{◌≡◌, ◌+◌, ◌≤◌, ◌++◌, true, drop, map, length}
 use Rattle.bed_syntax.specs.declared.weights.TheConstants as weights
 use Rattle.flat_lang.specs.Count.{code_weight}
 use Rattle.flat_lang.specs.Whole.{all_whole}

@@ -1,0 +1,9 @@
+pub mod Code
+pub mod Size
+pub mod Names
+pub mod Fit
+pub mod Tables
+pub mod Whole
+pub mod Ready
+pub mod Returns
+pub mod Emission

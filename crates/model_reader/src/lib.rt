@@ -1,0 +1,21 @@
+//! The text of models: bytes to a model exactly where they are a text of one, and a model to its
+//! canonical spelling.
+//!
+//! The grammar stands in `specs/`: each rule is the list of its parts, in the order of the text. The
+//! reader follows it part by part, and the first part that is refused says where the text is no model.
+#![tactic(auto)]
+
+mod expressions;
+mod facts;
+mod models;
+mod names;
+mod numbers;
+mod parts;
+mod reader;
+mod statements;
+mod words;
+
+pub use reader::read_model;
+
+#[cfg(test)]
+mod tests;

@@ -1,5 +1,6 @@
 pub mod Expressions
 pub mod Facts
+pub mod Formed
 pub mod Models
 pub mod Numbers
 pub mod Parts

@@ -39,6 +39,9 @@ worded w fs = list (atom w ∷ fs)
 abbrev pub number : ℕ → Sx
 number n = atom (decimal n)
 
+abbrev pub numbers : List ℕ → Sx
+numbers ns = list (map number ns)
+
 abbrev pub op_word : Op → List ℕ
 op_word Add = codes "add"
 op_word Sub = codes "sub"
@@ -64,10 +67,22 @@ scalar_word scalar.Word = codes "word"
 scalar_word scalar.Byte = codes "byte"
 scalar_word scalar.Flag = codes "flag"
 
+-- (len a)
+abbrev pub length : List ℕ → Sx
+length a = worded (codes "len") (atom a ∷ [])
+
+-- (get a i)
+abbrev pub get : List ℕ → Sx → Sx
+get a i = worded (codes "get") (atom a ∷ i ∷ [])
+
+-- (tab t (N+) i)
+abbrev pub table : Scalar → List ℕ → Sx → Sx
+table t ns i = worded (codes "tab") (atom (scalar_word t) ∷ numbers ns ∷ i ∷ [])
+
 abbrev pub expr_step : Expr-F Sx → Sx
 expr_step (e.Lit n) = number n
 expr_step (e.Var x) = atom x
-expr_step (e.Length a) = worded (codes "len") (atom a ∷ [])
+expr_step (e.Length a) = length a
 expr_step (e.Bin op p q) = worded (op_word op) (p ∷ q ∷ [])
 expr_step (e.Test cmp p q) = worded (cmp_word cmp) (p ∷ q ∷ [])
 expr_step (e.Not p) = worded (codes "not") (p ∷ [])
@@ -75,17 +90,21 @@ expr_step (e.Both p q) = worded (codes "both") (p ∷ q ∷ [])
 expr_step (e.Either p q) = worded (codes "either") (p ∷ q ∷ [])
 expr_step (e.ToWord p) = worded (codes "word") (p ∷ [])
 expr_step (e.ToByte p) = worded (codes "byte") (p ∷ [])
-expr_step (e.Get a i) = worded (codes "get") (atom a ∷ i ∷ [])
-expr_step (e.Tab t ns i) = worded (codes "tab") (atom (scalar_word t) ∷ list (map number ns) ∷ i ∷ [])
+expr_step (e.Get a i) = get a i
+expr_step (e.Tab t ns i) = table t ns i
 
 abbrev pub expr : Expr → Sx
 expr = fold-Expr Sx expr_step
+
+-- (mul n L)
+abbrev pub scale : ℕ → Sx → Sx
+scale n p = worded (codes "mul") (number n ∷ p ∷ [])
 
 abbrev pub side_step : Lin-F Sx → Sx
 side_step (l.Const n) = number n
 side_step (l.Var x) = atom x
 side_step (l.Sum p q) = worded (codes "add") (p ∷ q ∷ [])
-side_step (l.Scale k p) = worded (codes "mul") (number k ∷ p ∷ [])
+side_step (l.Scale k p) = scale k p
 
 abbrev pub side : Lin → Sx
 side = fold-Lin Sx side_step
@@ -102,16 +121,41 @@ keep rs = worded (codes "keep") (map fact rs)
 abbrev pub block : List Sx → Sx
 block = worded (codes "do")
 
+-- (x), the name of an element
+abbrev pub element : List ℕ → Sx
+element x = list (atom x ∷ [])
+
+abbrev pub let_form : List ℕ → Expr → Sx
+let_form x a = worded (codes "let") (atom x ∷ expr a ∷ [])
+
+abbrev pub put_form : List ℕ → Expr → Expr → Sx
+put_form a i v = worded (codes "put") (atom a ∷ expr i ∷ expr v ∷ [])
+
+abbrev pub move_form : List ℕ → List ℕ → Expr → Expr → Sx
+move_form b a i v = worded (codes "move") (atom b ∷ atom a ∷ expr i ∷ expr v ∷ [])
+
+-- what stands before the blocks of an if
+abbrev pub if_begun : Expr → List (List ℕ) → List Le → List Sx
+if_begun test xs rs = atom (codes "if") ∷ expr test ∷ names xs ∷ keep rs ∷ []
+
+-- what stands before the names of a loop
+abbrev pub for_begun : List ℕ → Expr → Expr → List Sx
+for_begun x low high = atom (codes "for") ∷ atom x ∷ expr low ∷ expr high ∷ []
+
+abbrev pub map_form : List ℕ → List ℕ → Expr → Sx
+map_form a x v = worded (codes "map") (atom a ∷ element x ∷ expr v ∷ [])
+
+abbrev pub fold_form : List ℕ → List ℕ → List ℕ → Expr → Sx
+fold_form t a x v = worded (codes "fold") (atom t ∷ atom a ∷ element x ∷ expr v ∷ [])
+
 abbrev pub stmt_step : Stmt-F Sx → Sx
-stmt_step (s.Let x a) = worded (codes "let") (atom x ∷ expr a ∷ [])
-stmt_step (s.Put a i v) = worded (codes "put") (atom a ∷ expr i ∷ expr v ∷ [])
-stmt_step (s.Move b a i v) = worded (codes "move") (atom b ∷ atom a ∷ expr i ∷ expr v ∷ [])
-stmt_step (s.If test xs rs first second) =
-    worded (codes "if") (expr test ∷ names xs ∷ keep rs ∷ block first ∷ block second ∷ [])
-stmt_step (s.For x low high xs rs body) =
-    worded (codes "for") (atom x ∷ expr low ∷ expr high ∷ names xs ∷ keep rs ∷ block body ∷ [])
-stmt_step (s.Map a x v) = worded (codes "map") (atom a ∷ list (atom x ∷ []) ∷ expr v ∷ [])
-stmt_step (s.Fold t a x v) = worded (codes "fold") (atom t ∷ atom a ∷ list (atom x ∷ []) ∷ expr v ∷ [])
+stmt_step (s.Let x a) = let_form x a
+stmt_step (s.Put a i v) = put_form a i v
+stmt_step (s.Move b a i v) = move_form b a i v
+stmt_step (s.If test xs rs first second) = list (if_begun test xs rs ++ block first ∷ block second ∷ [])
+stmt_step (s.For x low high xs rs body) = list (for_begun x low high ++ names xs ∷ keep rs ∷ block body ∷ [])
+stmt_step (s.Map a x v) = map_form a x v
+stmt_step (s.Fold t a x v) = fold_form t a x v
 
 abbrev pub stmt : Stmt → Sx
 stmt = fold-Stmt Sx stmt_step
@@ -120,19 +164,34 @@ abbrev pub len : Len → Sx
 len (Fixed n) = number n
 len (Named x) = atom x
 
+-- (x word), (x byte)
+abbrev pub scalar_form : List ℕ → List ℕ → Sx
+scalar_form x w = list (atom x ∷ atom w ∷ [])
+
+-- (a (bytes LEN)), (a (words LEN))
+abbrev pub array_form : List ℕ → List ℕ → Len → Sx
+array_form a w n = list (atom a ∷ worded w (len n ∷ []) ∷ [])
+
 abbrev pub param : Param → Sx
-param (parameter.Word x) = list (atom x ∷ atom (codes "word") ∷ [])
-param (parameter.Byte x) = list (atom x ∷ atom (codes "byte") ∷ [])
-param (parameter.Bytes a n) = list (atom a ∷ worded (codes "bytes") (len n ∷ []) ∷ [])
-param (parameter.Words a n) = list (atom a ∷ worded (codes "words") (len n ∷ []) ∷ [])
+param (parameter.Word x) = scalar_form x (codes "word")
+param (parameter.Byte x) = scalar_form x (codes "byte")
+param (parameter.Bytes a n) = array_form a (codes "bytes") n
+param (parameter.Words a n) = array_form a (codes "words") n
+
+abbrev pub params : List Param → Sx
+params ps = worded (codes "params") (map param ps)
 
 abbrev pub ret : Ret → Sx
 ret (result.Scalar x) = atom x
 ret (result.Array a p) = list (atom a ∷ atom (codes "in") ∷ atom p ∷ [])
 
+abbrev pub rets : List Ret → Sx
+rets rs = worded (codes "ret") (map ret rs)
+
 abbrev pub model : Model → Sx
-model m = worded (codes "model") (atom m.name ∷ worded (codes "params") (map param m.params)
-    ∷ worded (codes "require") (map fact m.requires_) ∷ block (map stmt m.body) ∷ worded (codes "ret") (map ret m.rets) ∷ [])
+model m =
+    worded (codes "model") (atom m.name ∷ params m.params ∷ worded (codes "require") (map fact m.requires_)
+    ∷ block (map stmt m.body) ∷ rets m.rets ∷ [])
 
 -- the canonical spelling: one space between forms, none beside a parenthesis's inside, one line feed at the end
 abbrev pub spelling : Model → List ℕ

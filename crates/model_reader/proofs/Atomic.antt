@@ -1,12 +1,10 @@
 -- Atoms are read back: names, numbers and words.
-use Rattle.std.proofs.Common.{◌≡◌, refl, sym, ◌∙◌, ap, ℕ, ◌≤◌, nat_le, Bool, true, List, arith, Ok, Some, None}
+use Rattle.std.proofs.Common.{◌≡◌, refl, ℕ, ◌≤◌, true, List, arith, Ok, Some, None}
 use Rattle.std.proofs.lemmas.Bool.Decides.{nat_tests}
 use Rattle.std.specs.Fmt.{decimal}
 use Rattle.rup_base.specs.Name.{is_name}
 use Rattle.rup_base.specs.declared.arg.Place.{Place}
-use Rattle.model_syntax.specs.declared.expr.Expr.{Expr}
 use Rattle.model_syntax.specs.declared.expr.Expr.TheVariants as v
-use Rattle.model_syntax.specs.declared.stmt.Lin.{Lin}
 use Rattle.model_syntax.specs.declared.stmt.Lin.TheVariants as l
 use Rattle.model_reader.specs.Numbers as numbers
 use Rattle.model_reader.specs.Parts as parts

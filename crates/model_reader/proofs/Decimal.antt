@@ -1,17 +1,17 @@
 -- Numbers in decimal are read back, names are no numbers, and both are atoms.
-use Rattle.std.proofs.Common.{◌≡◌, refl, sym, ◌∙◌, ap, ℕ, zero, suc, ◌+◌, ◌<◌, ◌≤◌, ◌^◌, nat_lt, nat_le, nat_eq, Bool, true, false, ◌&&◌, List, [], ◌∷◌, length, get_or, arith, Option, Some, None, if◌then◌else◌}
+use Rattle.std.proofs.Common.{◌≡◌, refl, ◌∙◌, ap, ℕ, zero, suc, ◌<◌, ◌≤◌, ◌^◌, nat_lt, nat_le, nat_eq, true, false, List, [], ◌∷◌, length, get_or, arith, Some, None}
 use Rattle.std.proofs.lemmas.Bool.Decides.{nat_tests}
 use Rattle.std.proofs.lemmas.Grind.{common_steps}
 use Rattle.std.proofs.lemmas.Fmt.{decimal_is_IsNumeral, decimal_digit, first_decimal}
 use Rattle.std.specs.Fmt.{decimal}
 use Rattle.std.specs.Char.{digit_value, is_digit}
-use Rattle.std.specs.Str.Parse.{AllDigits, digits_value_after}
+use Rattle.std.specs.Str.Parse.{AllDigits}
 use Rattle.std.specs.List.{list_all}
 use Rattle.rup_base.specs.Name.{is_name, is_word, begins_name, continues_name}
 use Rattle.sx_text.specs.Bytes.{in_atom}
 use Rattle.sx_text.specs.Spelling.{is_atom}
 use Rattle.sx_text.proofs.Atoms.{and_parts}
-use Rattle.model_reader.specs.Numbers.{number, numeral, in_word}
+use Rattle.model_reader.specs.Numbers.{number, numeral}
 use Rattle.model_reader.proofs.Numerals.{numeral_no_digit}
 
 digits_all : (ds : List ℕ) → AllDigits 10 ds → list_all (λ d. is_digit d 10) ds ≡ true

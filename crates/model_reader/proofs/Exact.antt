@@ -1,8 +1,8 @@
 -- The reader's definition and the relation between texts and models.
-use Rattle.std.proofs.Common.{◌≡◌, refl, sym, ◌∙◌, ap, ℕ, ◌≤◌, nat_le, Bool, true, false, List, [], map, length, arith, Option, Some, None, Result, Ok, Err, if◌then◌else◌}
+use Rattle.std.proofs.Common.{◌≡◌, subst, refl, sym, ◌∙◌, ap, ℕ, ◌≤◌, nat_le, Bool, true, false, List, length, arith, Option, Some, None, Ok, IfOk, Result, Err, if◌then◌else◌}
 use Rattle.std.proofs.lemmas.Bool.Decides.{nat_tests}
-use Rattle.rup_base.specs.Answers.{and_then}
-use Rattle.rup_base.specs.declared.refusal.Refusal.{Refusal}
+use Rattle.rup_base.specs.Answers.{Answers, and_then}
+use Rattle.rup_base.specs.declared.fail.Fail.{Fail}
 use Rattle.rup_base.specs.declared.refusal.Refusal.TheVariants.{OverLimit}
 use Rattle.rup_base.specs.declared.refusal.Limit.{Limit}
 use Rattle.rup_base.specs.declared.refusal.TextWhy.{TextWhy}
@@ -64,21 +64,26 @@ read_parts : (word : ℕ) (bytes : List ℕ) (m : Model) → read_model word byt
 read_parts word bytes m h =
     let (forms, r, rest) = first_part (read word bytes) (λ forms. and_then (model_of_forms (length bytes) forms) limited) m h in
     let (n, s, l) = first_part (model_of_forms (length bytes) forms) limited m rest in
-    let (same, none) = limited_same n m l in
-    (
+    let (same, none) = limited_same n m l in (
       (forms, same_forms word 0 bytes forms r, s ∙ ap answer_of same),
       none_within m (sym (ap over_limit same) ∙ none),
     )
-
-pub reads : (word : ℕ) (bytes : List ℕ) (m : Model) → read_model word bytes ≡ Ok m → Reads bytes m
-reads word bytes m h = (read_parts word bytes m h).0
-
-pub within : (word : ℕ) (bytes : List ℕ) (m : Model) → read_model word bytes ≡ Ok m → Within m
-within word bytes m h = (read_parts word bytes m h).1
 
 composed : (word : ℕ) (bytes : List ℕ) (m : Model) (forms : List Sx) → read word bytes ≡ Ok forms
     → model_of_forms (length bytes) forms ≡ Ok m → limited m ≡ Ok m → read_model word bytes ≡ Ok m
 composed word bytes m forms r s l = rw (r, s) l
 
-pub all : (word : ℕ) (bytes : List ℕ) (m : Model) → Reads bytes m → Within m → read_model word bytes ≡ Ok m
-all word bytes m (forms, r, s) w = composed word bytes m forms (same_forms 0 word bytes forms r) s (within_limits m w)
+is_read : (word : ℕ) (bytes : List ℕ) (m : Model) → Reads bytes m → Within m → read_model word bytes ≡ Ok m
+is_read word bytes m (forms, r, s) w = composed word bytes m forms (same_forms 0 word bytes forms r) s (within_limits m w)
+
+-- what a call answers that answers as the definition does
+pub answered_only : (word : ℕ) (bytes : List ℕ) (r : Result Model Fail) → Answers r (read_model word bytes)
+    → IfOk r (λ m. Reads bytes m × Within m)
+answered_only word bytes (Ok m) h = read_parts word bytes m h
+answered_only word bytes (Err e) h = tt
+
+pub answered_all : (word : ℕ) (bytes : List ℕ) (r : Result Model Fail) (m : Model) → Reads bytes m → Within m
+    → Answers r (read_model word bytes) → Answers r (Ok m)
+answered_all word bytes r m reads within h =
+    let P : Answer Model → Type 0 = λ a. Answers r a in
+    subst P (is_read word bytes m reads within) h

@@ -1,5 +1,5 @@
 -- The form of an expression is read as that expression.
-use Rattle.std.proofs.Common.{◌≡◌, refl, sym, ◌∙◌, ap, subst, ℕ, nat_le, Bool, true, false, ◌&&◌, List, [], ◌∷◌, map, codes, Ok}
+use Rattle.std.proofs.Common.{◌≡◌, refl, sym, ◌∙◌, ap, subst, ℕ, nat_le, Bool, true, List, [], ◌∷◌, map, codes, Ok}
 use Rattle.std.specs.Fmt.{decimal}
 use Rattle.std.specs.List.{list_all}
 use Rattle.rup_base.specs.declared.arg.Place.{Place}
@@ -21,11 +21,11 @@ use Rattle.model_syntax.specs.Spelling.{expr_spellable, expr_spellable_step, is_
 use Rattle.model_reader.specs.Parts as parts
 use Rattle.model_reader.specs.Parts.{Answer, Reading}
 use Rattle.model_reader.specs.Reading.{reading, atom_reading}
-use Rattle.model_reader.specs.Expressions.{expr, list_expr, entry, entries, table_scalar, fits}
+use Rattle.model_reader.specs.Expressions.{expr, list_expr, entry, table_scalar, fits}
 use Rattle.model_reader.specs.Formed.{is_word, expr_formed, expr_formed_step}
 use Rattle.model_reader.specs.Printing as printing
 use Rattle.model_reader.specs.Printing.{atom, list, expr_step, op_word, cmp_word, scalar_word}
-use Rattle.model_reader.proofs.Backs.{at_atom, at_list, at_worded, IsBack, AreBack, each_back, all_back}
+use Rattle.model_reader.proofs.Backs.{at_atom, at_list, at_worded, IsBack, AreBack, each_back}
 use Rattle.model_reader.proofs.Atomic.{name_back, number_back, literal_back, variable_back}
 
 -- the rules, where each part is read back
@@ -155,14 +155,14 @@ node (e.Length a) =
     (λ p q d bd. length_reads p q (reading d) a (name_back a h d bd)))
 node (e.Bin op k m) =
     at_layer (e.Bin op k.0 m.0) (v.Bin op k.0 m.0) (v.rolls-Bin op k.0 m.0)
-    (λ h s c b. 
+    (λ h s c b.
     let f = and_parts (expr_formed k.0) (expr_formed m.0) h in
     let g = and_parts (expr_spellable k.0) (expr_spellable m.0) s in
     at_worded (op_word op) (printing.expr k.0 ∷ printing.expr m.0 ∷ []) c (λ r. r.expr ≡ Ok (v.Bin op k.0 m.0)) b
     (λ p q d bd i bi. bin_reads p q (reading d) (reading i) k.0 m.0 (k.1 f.0 g.0 d bd) (m.1 f.1 g.1 i bi) op))
 node (e.Test cmp k m) =
     at_layer (e.Test cmp k.0 m.0) (v.Test cmp k.0 m.0) (v.rolls-Test cmp k.0 m.0)
-    (λ h s c b. 
+    (λ h s c b.
     let f = and_parts (expr_formed k.0) (expr_formed m.0) h in
     let g = and_parts (expr_spellable k.0) (expr_spellable m.0) s in
     at_worded (cmp_word cmp) (printing.expr k.0 ∷ printing.expr m.0 ∷ []) c (λ r. r.expr ≡ Ok (v.Test cmp k.0 m.0)) b
@@ -173,14 +173,14 @@ node (e.Not k) =
     (λ p q d bd. not_reads p q (reading d) k.0 (k.1 h s d bd)))
 node (e.Both k m) =
     at_layer (e.Both k.0 m.0) (v.Both k.0 m.0) (v.rolls-Both k.0 m.0)
-    (λ h s c b. 
+    (λ h s c b.
     let f = and_parts (expr_formed k.0) (expr_formed m.0) h in
     let g = and_parts (expr_spellable k.0) (expr_spellable m.0) s in
     at_worded (codes "both") (printing.expr k.0 ∷ printing.expr m.0 ∷ []) c (λ r. r.expr ≡ Ok (v.Both k.0 m.0)) b
     (λ p q d bd i bi. both_reads p q (reading d) (reading i) k.0 m.0 (k.1 f.0 g.0 d bd) (m.1 f.1 g.1 i bi)))
 node (e.Either k m) =
     at_layer (e.Either k.0 m.0) (v.Either k.0 m.0) (v.rolls-Either k.0 m.0)
-    (λ h s c b. 
+    (λ h s c b.
     let f = and_parts (expr_formed k.0) (expr_formed m.0) h in
     let g = and_parts (expr_spellable k.0) (expr_spellable m.0) s in
     at_worded (codes "either") (printing.expr k.0 ∷ printing.expr m.0 ∷ []) c (λ r. r.expr ≡ Ok (v.Either k.0 m.0)) b
@@ -195,13 +195,13 @@ node (e.ToByte k) =
     (λ p q d bd. to_byte_reads p q (reading d) k.0 (k.1 h s d bd)))
 node (e.Get a k) =
     at_layer (e.Get a k.0) (v.Get a k.0) (v.rolls-Get a k.0)
-    (λ h s c b. 
+    (λ h s c b.
     let f = and_parts (is_name a) (expr_formed k.0) h in
     at_worded (codes "get") (atom a ∷ printing.expr k.0 ∷ []) c (λ r. r.expr ≡ Ok (v.Get a k.0)) b
     (λ p q d bd i bi. get_reads p q (reading d) (reading i) a k.0 (name_back a f.0 d bd) (k.1 f.1 s i bi)))
 node (e.Tab t ns k) =
     at_layer (e.Tab t ns k.0) (v.Tab t ns k.0) (v.rolls-Tab t ns k.0)
-    (λ h s c b. 
+    (λ h s c b.
     let f = and_parts (all_true (map is_word ns)) (expr_formed k.0) h in
     let g = and_parts (is_table t ns) (expr_spellable k.0) s in
     at_worded (codes "tab") (atom (scalar_word t) ∷ list (map printing.number ns) ∷ printing.expr k.0 ∷ []) c (λ r. r.expr ≡ Ok (v.Tab t ns k.0)) b

@@ -1,8 +1,7 @@
 -- The form of a requirement or of a kept fact is read as it.
-use Rattle.std.proofs.Common.{◌≡◌, refl, sym, ◌∙◌, ap, subst, ℕ, Bool, true, ◌&&◌, List, [], ◌∷◌, map, codes, Ok}
+use Rattle.std.proofs.Common.{◌≡◌, refl, sym, ◌∙◌, ap, subst, ℕ, Bool, true, List, [], ◌∷◌, map, codes, Ok}
 use Rattle.std.specs.Fmt.{decimal}
 use Rattle.rup_base.specs.declared.arg.Place.{Place}
-use Rattle.rup_base.specs.Gather.{all_true}
 use Rattle.sx_text.specs.declared.tree.Sx.{Sx}
 use Rattle.sx_text.specs.Spelling.{bare}
 use Rattle.sx_text.proofs.Atoms.{and_parts}
@@ -57,13 +56,13 @@ node (l.Var x) =
     (λ h c b. at_atom x c (λ r. r.side ≡ Ok (v.Var x)) b (λ p. unknown_back p x h))
 node (l.Sum k m) =
     at_layer (l.Sum k.0 m.0) (v.Sum k.0 m.0) (v.rolls-Sum k.0 m.0)
-    (λ h c b. 
+    (λ h c b.
     let f = and_parts (side_formed k.0) (side_formed m.0) h in
     at_worded (codes "add") (printing.side k.0 ∷ printing.side m.0 ∷ []) c (λ r. r.side ≡ Ok (v.Sum k.0 m.0)) b
     (λ p q d bd i bi. sum_reads p q (reading d) (reading i) k.0 m.0 (k.1 f.0 d bd) (m.1 f.1 i bi)))
 node (l.Scale n k) =
     at_layer (l.Scale n k.0) (v.Scale n k.0) (v.rolls-Scale n k.0)
-    (λ h c b. 
+    (λ h c b.
     let f = and_parts (is_word n) (side_formed k.0) h in
     at_worded (codes "mul") (printing.number n ∷ printing.side k.0 ∷ []) c (λ r. r.side ≡ Ok (v.Scale n k.0)) b
     (λ p q d bd i bi. scale_reads p q (reading d) (reading i) n k.0 (number_back n f.0 d bd) (k.1 f.1 i bi)))

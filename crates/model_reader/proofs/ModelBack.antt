@@ -1,5 +1,5 @@
 -- The form of a model is read as that model.
-use Rattle.std.proofs.Common.{◌≡◌, refl, ap, ℕ, Bool, true, ◌&&◌, List, [], ◌∷◌, map, codes, Ok, Some, None}
+use Rattle.std.proofs.Common.{◌≡◌, refl, ℕ, Bool, true, ◌&&◌, List, [], ◌∷◌, map, codes, Ok, Some, None}
 use Rattle.std.specs.Fmt.{decimal}
 use Rattle.rup_base.specs.declared.arg.Place.{Place}
 use Rattle.rup_base.specs.Name.{is_name}
@@ -7,8 +7,6 @@ use Rattle.rup_base.specs.Gather.{all_true}
 use Rattle.sx_text.specs.declared.tree.Sx.{Sx}
 use Rattle.sx_text.specs.Spelling.{bare}
 use Rattle.sx_text.proofs.Atoms.{and_parts}
-use Rattle.model_syntax.specs.declared.stmt.Le.{Le}
-use Rattle.model_syntax.specs.declared.stmt.Stmt.{Stmt}
 use Rattle.model_syntax.specs.declared.program.Len.{Len}
 use Rattle.model_syntax.specs.declared.program.Len.TheVariants.{Fixed, Named}
 use Rattle.model_syntax.specs.declared.program.Param.{Param}
@@ -23,7 +21,7 @@ use Rattle.model_reader.specs.Parts.{Answer, Reading, Name}
 use Rattle.model_reader.specs.Reading.{reading, atom_reading}
 use Rattle.model_reader.specs.Models as models
 use Rattle.model_reader.specs.Models.{len, list_sort, list_param, atom_ret, list_ret, list_model, in_word}
-use Rattle.model_reader.specs.Formed.{is_word, len_formed, param_formed, facts_formed, stmt_formed, ret_formed, model_formed}
+use Rattle.model_reader.specs.Formed.{len_formed, param_formed, facts_formed, stmt_formed, ret_formed, model_formed}
 use Rattle.model_reader.specs.Printing as printing
 use Rattle.model_reader.specs.Printing.{atom, worded}
 use Rattle.model_reader.proofs.Backs.{at_atom, at_worded, at_headed, IsBack, each_back, all_back}
@@ -126,7 +124,7 @@ model_back m h s c b =
     ∷ worded (codes "require") (map printing.fact m.requires_) ∷ printing.block (map printing.stmt m.body)
     ∷ worded (codes "ret") (map printing.ret m.rets) ∷ [])
     c (λ r. r.model ≡ Ok m) b
-    (λ p q d1 b1 d2 b2 d3 b3 d4 b4 d5 b5. 
+    (λ p q d1 b1 d2 b2 d3 b3 d4 b4 d5 b5.
     model_reads p q (reading d1) (reading d2) (reading d3) (reading d4) (reading d5) m
     (name_back m.name f1.0 d1 b1) (params_back m.params f2.0 d2 b2) (require_back m.requires_ f3.0 d3 b3)
     (body_back m.body f4.0 s d4 b4) (rets_back m.rets f4.1 d5 b5))

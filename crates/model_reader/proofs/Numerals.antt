@@ -1,5 +1,5 @@
 -- A number by its digits: one digit more, a byte that is no digit, and a number that is too great.
-use Rattle.std.proofs.Common.{◌≡◌, refl, sym, ℕ, zero, suc, mul-suc, ◌+◌, ◌*◌, ◌<◌, ◌≤◌, nat_lt, nat_le, true, false, ◌&&◌, if◌then◌else◌, List, [], ◌∷◌, arith, None}
+use Rattle.std.proofs.Common.{◌≡◌, refl, ℕ, zero, suc, mul-suc, ◌+◌, ◌*◌, ◌<◌, ◌≤◌, nat_lt, nat_le, true, false, if◌then◌else◌, List, [], ◌∷◌, arith, None}
 use Rattle.std.proofs.lemmas.Grind.{common_steps}
 use Rattle.std.specs.Char.{digit_value, is_digit}
 use Rattle.std.specs.Str.Parse.{digits_value_after}
@@ -19,7 +19,7 @@ no_less (suc k) n h = rw mul-suc (omega arith)
 
 grows : (radix n : ℕ) (ds : List ℕ) → 1 ≤ radix → n ≤ digits_value_after radix n ds
 grows radix n [] h = omega arith
-grows radix n (d ∷ ds) h = 
+grows radix n (d ∷ ds) h =
     let more = grows radix (n * radix + digit_value d) ds h in
     let step : n ≤ n * radix = no_less radix n h in
     omega arith

@@ -1,5 +1,5 @@
 -- A model that is printed is read back.
-use Rattle.std.proofs.Common.{◌≡◌, refl, ℕ, ◌≤◌, nat_le, Bool, true, List, [], ◌∷◌, ◌++◌, map, arith, Ok, None, IsTrue}
+use Rattle.std.proofs.Common.{◌≡◌, refl, ℕ, ◌≤◌, nat_le, true, List, [], ◌∷◌, map, arith, Ok, None}
 use Rattle.std.proofs.lemmas.Bool.Decides.{nat_tests}
 use Rattle.rup_base.specs.Gather.{all_true}
 use Rattle.sx_text.specs.declared.tree.Sx.{Sx}
@@ -20,8 +20,12 @@ under n most h = grind (arith, nat_tests)
 
 none_over : (m : Model) → Within m → over_limit m ≡ None
 none_over m w =
-    rw (under (statements m) 2000 w.few_statements, under (depth m) 64 w.shallow_expressions,
-    under (blocks m) 16 w.shallow_blocks, under (tables m) 65536 w.small_tables) refl
+    rw (
+      under (statements m) 2000 w.few_statements,
+      under (depth m) 64 w.shallow_expressions,
+      under (blocks m) 16 w.shallow_blocks,
+      under (tables m) 65536 w.small_tables,
+    ) refl
 
 pub within_limits : (m : Model) → Within m → limited m ≡ Ok m
 within_limits m w = rw (none_over m w, limited) refl

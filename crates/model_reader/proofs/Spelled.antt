@@ -120,16 +120,17 @@ expr_node (e.ToWord k) = expr_layer (e.ToWord k.0) (λ h. worded_spelled (codes 
 expr_node (e.ToByte k) = expr_layer (e.ToByte k.0) (λ h. worded_spelled (codes "byte") (printing.expr k.0 ∷ []) refl (k.1 h, tt))
 expr_node (e.Get a k) =
     expr_layer (e.Get a k.0)
-    (λ h. 
+    (λ h.
     let f = and_parts (is_name a) (expr_formed k.0) h in
     worded_spelled (codes "get") (atom a ∷ printing.expr k.0 ∷ []) refl (name_form a f.0, (k.1 f.1, tt)))
 expr_node (e.Tab t ns k) =
     expr_layer (e.Tab t ns k.0)
-    (λ h. 
+    (λ h.
     let f = and_parts (all_true (map is_word ns)) (expr_formed k.0) h in
-    worded_spelled (codes "tab") (atom (scalar_word t) ∷ list (map printing.number ns) ∷ printing.expr k.0 ∷ []) refl
-    (atom_spelled (scalar_word t) (scalar_spelled t),
-    (list_spelled (map printing.number ns) (each_spelled printing.number is_word number_form ns f.0), (k.1 f.1, tt))))
+    worded_spelled (codes "tab") (atom (scalar_word t) ∷ list (map printing.number ns) ∷ printing.expr k.0 ∷ []) refl (
+      atom_spelled (scalar_word t) (scalar_spelled t),
+      (list_spelled (map printing.number ns) (each_spelled printing.number is_word number_form ns f.0), (k.1 f.1, tt)),
+    ))
 
 expr_form : (w : Expr) → IsExprSpelled w
 expr_form = ind-Expr IsExprSpelled (λ z y is. subst (λ w. IsExprSpelled (roll-Expr w)) is (expr_node y))
@@ -151,12 +152,12 @@ side_node (l.Const n) = side_layer (l.Const n) (λ h. number_form n h)
 side_node (l.Var x) = side_layer (l.Var x) (λ h. name_form x h)
 side_node (l.Sum k m) =
     side_layer (l.Sum k.0 m.0)
-    (λ h. 
+    (λ h.
     let f = and_parts (side_formed k.0) (side_formed m.0) h in
     worded_spelled (codes "add") (printing.side k.0 ∷ printing.side m.0 ∷ []) refl (k.1 f.0, (m.1 f.1, tt)))
 side_node (l.Scale n k) =
     side_layer (l.Scale n k.0)
-    (λ h. 
+    (λ h.
     let f = and_parts (is_word n) (side_formed k.0) h in
     worded_spelled (codes "mul") (printing.number n ∷ printing.side k.0 ∷ []) refl (number_form n f.0, (k.1 f.1, tt)))
 
@@ -201,19 +202,19 @@ stmt_layer y f h = ap is_spelled (fold-roll-Stmt Sx stmt_step y) ∙ f (sym (fol
 stmt_node : (y : Stmt-F ProvedStmt) → IsStmtSpelled (roll-Stmt (map-Stmt ProvedStmt Stmt (λ k. k.0) y))
 stmt_node (s.Let x a) =
     stmt_layer (s.Let x a)
-    (λ h. 
+    (λ h.
     let f = and_parts (is_name x) (expr_formed a) h in
     worded_spelled (codes "let") (atom x ∷ printing.expr a ∷ []) refl (name_form x f.0, (expr_form a f.1, tt)))
 stmt_node (s.Put a i v) =
     stmt_layer (s.Put a i v)
-    (λ h. 
+    (λ h.
     let f1 = and_parts (is_name a) (expr_formed i && expr_formed v) h in
     let f2 = and_parts (expr_formed i) (expr_formed v) f1.1 in
     worded_spelled (codes "put") (atom a ∷ printing.expr i ∷ printing.expr v ∷ []) refl
     (name_form a f1.0, (expr_form i f2.0, (expr_form v f2.1, tt))))
 stmt_node (s.Move b a i v) =
     stmt_layer (s.Move b a i v)
-    (λ h. 
+    (λ h.
     let f0 = and_parts (is_name b) (is_name a && (expr_formed i && expr_formed v)) h in
     let f1 = and_parts (is_name a) (expr_formed i && expr_formed v) f0.1 in
     let f2 = and_parts (expr_formed i) (expr_formed v) f1.1 in
@@ -221,7 +222,7 @@ stmt_node (s.Move b a i v) =
     (name_form b f0.0, (name_form a f1.0, (expr_form i f2.0, (expr_form v f2.1, tt)))))
 stmt_node (s.If test xs rs ks ms) =
     stmt_layer (s.If test xs rs (stmts ks) (stmts ms))
-    (λ h. 
+    (λ h.
     let one : Bool = all_true (map stmt_formed (stmts ks)) in
     let two : Bool = all_true (map stmt_formed (stmts ms)) in
     let f1 = and_parts (expr_formed test) (names_formed xs && (facts_formed rs && (one && two))) h in
@@ -232,7 +233,7 @@ stmt_node (s.If test xs rs ks ms) =
     refl (expr_form test f1.0, (names_form xs f2.0, (facts_form (codes "keep") rs refl f3.0, (block_form ks f4.0, (block_form ms f4.1, tt))))))
 stmt_node (s.For x low high xs rs ks) =
     stmt_layer (s.For x low high xs rs (stmts ks))
-    (λ h. 
+    (λ h.
     let body : Bool = all_true (map stmt_formed (stmts ks)) in
     let f1 = and_parts (is_name x) (expr_formed low && (expr_formed high && (names_formed xs && (facts_formed rs && body)))) h in
     let f2 = and_parts (expr_formed low) (expr_formed high && (names_formed xs && (facts_formed rs && body))) f1.1 in
@@ -243,14 +244,14 @@ stmt_node (s.For x low high xs rs ks) =
     refl (name_form x f1.0, (expr_form low f2.0, (expr_form high f3.0, (names_form xs f4.0, (facts_form (codes "keep") rs refl f5.0, (block_form ks f5.1, tt)))))))
 stmt_node (s.Map a x v) =
     stmt_layer (s.Map a x v)
-    (λ h. 
+    (λ h.
     let f1 = and_parts (is_name a) (is_name x && expr_formed v) h in
     let f2 = and_parts (is_name x) (expr_formed v) f1.1 in
     worded_spelled (codes "map") (atom a ∷ list (atom x ∷ []) ∷ printing.expr v ∷ []) refl
     (name_form a f1.0, (list_spelled (atom x ∷ []) (name_form x f2.0, tt), (expr_form v f2.1, tt))))
 stmt_node (s.Fold t a x v) =
     stmt_layer (s.Fold t a x v)
-    (λ h. 
+    (λ h.
     let f0 = and_parts (is_name t) (is_name a && (is_name x && expr_formed v)) h in
     let f1 = and_parts (is_name a) (is_name x && expr_formed v) f0.1 in
     let f2 = and_parts (is_name x) (expr_formed v) f1.1 in
@@ -295,8 +296,16 @@ model_spelled m h =
     worded_spelled (codes "model") (atom m.name ∷ worded (codes "params") (map printing.param m.params)
     ∷ worded (codes "require") (map printing.fact m.requires_) ∷ printing.block (map printing.stmt m.body)
     ∷ worded (codes "ret") (map printing.ret m.rets) ∷ [])
-    refl (name_form m.name f1.0,
-    (worded_spelled (codes "params") (map printing.param m.params) refl (each_spelled printing.param param_formed param_form m.params f2.0),
-    (facts_form (codes "require") m.requires_ refl f3.0,
-    (worded_spelled (codes "do") (map printing.stmt m.body) refl (each_spelled printing.stmt stmt_formed stmt_form m.body f4.0),
-    (worded_spelled (codes "ret") (map printing.ret m.rets) refl (each_spelled printing.ret ret_formed ret_form m.rets f4.1), tt)))))
+    refl (
+      name_form m.name f1.0,
+      (
+        worded_spelled (codes "params") (map printing.param m.params) refl (each_spelled printing.param param_formed param_form m.params f2.0),
+        (
+          facts_form (codes "require") m.requires_ refl f3.0,
+          (
+            worded_spelled (codes "do") (map printing.stmt m.body) refl (each_spelled printing.stmt stmt_formed stmt_form m.body f4.0),
+            (worded_spelled (codes "ret") (map printing.ret m.rets) refl (each_spelled printing.ret ret_formed ret_form m.rets f4.1), tt),
+          ),
+        ),
+      ),
+    )

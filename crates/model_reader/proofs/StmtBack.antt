@@ -1,5 +1,5 @@
 -- The form of a statement is read as that statement.
-use Rattle.std.proofs.Common.{◌≡◌, refl, sym, ◌∙◌, ap, subst, ℕ, Bool, true, ◌&&◌, List, [], ◌∷◌, map, codes, Ok}
+use Rattle.std.proofs.Common.{◌≡◌, refl, sym, ◌∙◌, ap, subst, Bool, true, ◌&&◌, List, [], ◌∷◌, map, codes, Ok}
 use Rattle.rup_base.specs.declared.arg.Place.{Place}
 use Rattle.rup_base.specs.Name.{is_name}
 use Rattle.rup_base.specs.Gather.{all_true}
@@ -107,7 +107,7 @@ at_layer y w is f h s c b =
 if_node : (test : Expr) (xs : List Name) (rs : List Le) (ks ms : List Proved) → IsStmtBack (roll-Stmt (s.If test xs rs (stmts ks) (stmts ms)))
 if_node test xs rs ks ms =
     at_layer (s.If test xs rs (stmts ks) (stmts ms)) (v.If test xs rs (stmts ks) (stmts ms)) (v.rolls-If test xs rs (stmts ks) (stmts ms))
-    (λ h s c b. 
+    (λ h s c b.
     let one : Bool = all_true (map stmt_formed (stmts ks)) in
     let two : Bool = all_true (map stmt_formed (stmts ms)) in
     let f1 = and_parts (expr_formed test) (names_formed xs && (facts_formed rs && (one && two))) h in
@@ -118,7 +118,7 @@ if_node test xs rs ks ms =
     let g2 = and_parts (expr_spellable test) (all_true (map stmt_spellable (stmts ks))) g1.0 in
     at_worded (codes "if") (printing.expr test ∷ printing.names xs ∷ printing.keep rs ∷ printing.block (map printing.stmt (stmts ks)) ∷ printing.block (map printing.stmt (stmts ms)) ∷ [])
     c (λ r. r.stmt ≡ Ok (v.If test xs rs (stmts ks) (stmts ms))) b
-    (λ p q d1 b1 d2 b2 d3 b3 d4 b4 d5 b5. 
+    (λ p q d1 b1 d2 b2 d3 b3 d4 b4 d5 b5.
     if_reads p q (reading d1) (reading d2) (reading d3) (reading d4) (reading d5) test xs rs (stmts ks) (stmts ms)
     (expr_back test f1.0 g2.0 d1 b1) (names_back xs f2.0 d2 b2) (keep_back rs f3.0 d3 b3)
     (block_back (stmts ks) (proved_back ks f4.0 g2.1) d4 b4) (block_back (stmts ms) (proved_back ms f4.1 g1.1) d5 b5)))
@@ -126,7 +126,7 @@ if_node test xs rs ks ms =
 for_node : (x : Name) (low high : Expr) (xs : List Name) (rs : List Le) (ks : List Proved) → IsStmtBack (roll-Stmt (s.For x low high xs rs (stmts ks)))
 for_node x low high xs rs ks =
     at_layer (s.For x low high xs rs (stmts ks)) (v.For x low high xs rs (stmts ks)) (v.rolls-For x low high xs rs (stmts ks))
-    (λ h s c b. 
+    (λ h s c b.
     let body : Bool = all_true (map stmt_formed (stmts ks)) in
     let f1 = and_parts (is_name x) (expr_formed low && (expr_formed high && (names_formed xs && (facts_formed rs && body)))) h in
     let f2 = and_parts (expr_formed low) (expr_formed high && (names_formed xs && (facts_formed rs && body))) f1.1 in
@@ -137,7 +137,7 @@ for_node x low high xs rs ks =
     let g2 = and_parts (expr_spellable low) (expr_spellable high) g1.0 in
     at_worded (codes "for") (atom x ∷ printing.expr low ∷ printing.expr high ∷ printing.names xs ∷ printing.keep rs ∷ printing.block (map printing.stmt (stmts ks)) ∷ [])
     c (λ r. r.stmt ≡ Ok (v.For x low high xs rs (stmts ks))) b
-    (λ p q d1 b1 d2 b2 d3 b3 d4 b4 d5 b5 d6 b6. 
+    (λ p q d1 b1 d2 b2 d3 b3 d4 b4 d5 b5 d6 b6.
     for_reads p q (reading d1) (reading d2) (reading d3) (reading d4) (reading d5) (reading d6) x low high xs rs (stmts ks)
     (name_back x f1.0 d1 b1) (expr_back low f2.0 g2.0 d2 b2) (expr_back high f3.0 g2.1 d3 b3) (names_back xs f4.0 d4 b4)
     (keep_back rs f5.0 d5 b5) (block_back (stmts ks) (proved_back ks f5.1 g1.1) d6 b6)))
@@ -145,50 +145,50 @@ for_node x low high xs rs ks =
 node : (y : Stmt-F Proved) → IsStmtBack (roll-Stmt (map-Stmt Proved Stmt (λ k. k.0) y))
 node (s.Let x a) =
     at_layer (s.Let x a) (v.Let x a) (v.rolls-Let x a)
-    (λ h s c b. 
+    (λ h s c b.
     let f = and_parts (is_name x) (expr_formed a) h in
     at_worded (codes "let") (atom x ∷ printing.expr a ∷ []) c (λ r. r.stmt ≡ Ok (v.Let x a)) b
     (λ p q d1 b1 d2 b2. let_reads p q (reading d1) (reading d2) x a (name_back x f.0 d1 b1) (expr_back a f.1 s d2 b2)))
 node (s.Put a i e) =
     at_layer (s.Put a i e) (v.Put a i e) (v.rolls-Put a i e)
-    (λ h s c b. 
+    (λ h s c b.
     let f1 = and_parts (is_name a) (expr_formed i && expr_formed e) h in
     let f2 = and_parts (expr_formed i) (expr_formed e) f1.1 in
     let g = and_parts (expr_spellable i) (expr_spellable e) s in
     at_worded (codes "put") (atom a ∷ printing.expr i ∷ printing.expr e ∷ []) c (λ r. r.stmt ≡ Ok (v.Put a i e)) b
-    (λ p q d1 b1 d2 b2 d3 b3. 
+    (λ p q d1 b1 d2 b2 d3 b3.
     put_reads p q (reading d1) (reading d2) (reading d3) a i e
     (name_back a f1.0 d1 b1) (expr_back i f2.0 g.0 d2 b2) (expr_back e f2.1 g.1 d3 b3)))
 node (s.Move m a i e) =
     at_layer (s.Move m a i e) (v.Move m a i e) (v.rolls-Move m a i e)
-    (λ h s c b. 
+    (λ h s c b.
     let f0 = and_parts (is_name m) (is_name a && (expr_formed i && expr_formed e)) h in
     let f1 = and_parts (is_name a) (expr_formed i && expr_formed e) f0.1 in
     let f2 = and_parts (expr_formed i) (expr_formed e) f1.1 in
     let g = and_parts (expr_spellable i) (expr_spellable e) s in
     at_worded (codes "move") (atom m ∷ atom a ∷ printing.expr i ∷ printing.expr e ∷ []) c (λ r. r.stmt ≡ Ok (v.Move m a i e)) b
-    (λ p q d1 b1 d2 b2 d3 b3 d4 b4. 
+    (λ p q d1 b1 d2 b2 d3 b3 d4 b4.
     move_reads p q (reading d1) (reading d2) (reading d3) (reading d4) m a i e
     (name_back m f0.0 d1 b1) (name_back a f1.0 d2 b2) (expr_back i f2.0 g.0 d3 b3) (expr_back e f2.1 g.1 d4 b4)))
 node (s.If test xs rs ks ms) = if_node test xs rs ks ms
 node (s.For x low high xs rs ks) = for_node x low high xs rs ks
 node (s.Map a x e) =
     at_layer (s.Map a x e) (v.Map a x e) (v.rolls-Map a x e)
-    (λ h s c b. 
+    (λ h s c b.
     let f1 = and_parts (is_name a) (is_name x && expr_formed e) h in
     let f2 = and_parts (is_name x) (expr_formed e) f1.1 in
     at_worded (codes "map") (atom a ∷ list (atom x ∷ []) ∷ printing.expr e ∷ []) c (λ r. r.stmt ≡ Ok (v.Map a x e)) b
-    (λ p q d1 b1 d2 b2 d3 b3. 
+    (λ p q d1 b1 d2 b2 d3 b3.
     map_reads p q (reading d1) (reading d2) (reading d3) a x e
     (name_back a f1.0 d1 b1) (element_back x f2.0 d2 b2) (expr_back e f2.1 s d3 b3)))
 node (s.Fold t a x e) =
     at_layer (s.Fold t a x e) (v.Fold t a x e) (v.rolls-Fold t a x e)
-    (λ h s c b. 
+    (λ h s c b.
     let f0 = and_parts (is_name t) (is_name a && (is_name x && expr_formed e)) h in
     let f1 = and_parts (is_name a) (is_name x && expr_formed e) f0.1 in
     let f2 = and_parts (is_name x) (expr_formed e) f1.1 in
     at_worded (codes "fold") (atom t ∷ atom a ∷ list (atom x ∷ []) ∷ printing.expr e ∷ []) c (λ r. r.stmt ≡ Ok (v.Fold t a x e)) b
-    (λ p q d1 b1 d2 b2 d3 b3 d4 b4. 
+    (λ p q d1 b1 d2 b2 d3 b3 d4 b4.
     fold_reads p q (reading d1) (reading d2) (reading d3) (reading d4) t a x e
     (name_back t f0.0 d1 b1) (name_back a f1.0 d2 b2) (element_back x f2.0 d3 b3) (expr_back e f2.1 s d4 b4)))
 

@@ -1,5 +1,5 @@
 -- The rules of expressions.
-use Rattle.std.specs.Prelude.{ℕ, nat_le, Bool, true, false, List, [], ◌∷◌, Ok, Option, Some, None, if◌then◌else◌}
+use Rattle.std.specs.Prelude.{ℕ, nat_le, Bool, true, false, List, [], ◌∷◌, Ok, Some, None, if◌then◌else◌}
 use Rattle.rup_base.specs.Name.{is_name}
 use Rattle.rup_base.specs.declared.arg.Place.{Place}
 use Rattle.model_syntax.specs.declared.expr.Scalar.{Scalar}
@@ -10,7 +10,7 @@ use Rattle.model_reader.specs.declared.words.ExprWord.{ExprWord}
 use Rattle.model_reader.specs.declared.words.ExprWord.TheVariants as word
 use Rattle.model_reader.specs.Numbers as numbers
 use Rattle.model_reader.specs.Words.{expr_word, scalar_of}
-use Rattle.model_reader.specs.Parts.{Answer, Reading, Kind, Rule, ◌>>=◌, wrong, nth, end, some, name, number, known}
+use Rattle.model_reader.specs.Parts.{Answer, Kind, Rule, ◌>>=◌, wrong, nth, end, some, name, number, known}
 
 abbrev pub expr : Kind Expr
 expr f = f.expr

@@ -1,5 +1,5 @@
 -- The rules of requirements and kept facts.
-use Rattle.std.specs.Prelude.{ℕ, List, [], ◌∷◌, Ok, Option, Some, None, codes, if◌then◌else◌}
+use Rattle.std.specs.Prelude.{ℕ, List, [], ◌∷◌, Ok, Some, None, codes, if◌then◌else◌}
 use Rattle.rup_base.specs.Name.{is_name}
 use Rattle.rup_base.specs.declared.arg.Place.{Place}
 use Rattle.model_syntax.specs.Names.{same}
@@ -7,7 +7,7 @@ use Rattle.model_syntax.specs.declared.stmt.Lin.{Lin}
 use Rattle.model_syntax.specs.declared.stmt.Lin.TheVariants as l
 use Rattle.model_syntax.specs.declared.stmt.Le.{Le}
 use Rattle.model_reader.specs.Numbers as numbers
-use Rattle.model_reader.specs.Parts.{Answer, Reading, Kind, Rule, ◌>>=◌, wrong, nth, end, headed, number}
+use Rattle.model_reader.specs.Parts.{Answer, Kind, Rule, ◌>>=◌, wrong, nth, end, headed, number}
 
 abbrev pub side : Kind Lin
 side f = f.side

@@ -1,6 +1,6 @@
 -- Models whose names are names and whose numbers are words. Every model of the code is one: the types `Name`
 -- and `u32` keep it, while in a clause a name is only its bytes and a number has no end.
-use Rattle.std.specs.Prelude.{ℕ, nat_le, Bool, true, ◌&&◌, List, map}
+use Rattle.std.specs.Prelude.{ℕ, nat_le, Bool, ◌&&◌, List, map}
 use Rattle.rup_base.specs.Name.{is_name}
 use Rattle.rup_base.specs.Gather.{all_true}
 use Rattle.model_syntax.specs.declared.expr.Expr.{Expr, Expr-F, fold-Expr}

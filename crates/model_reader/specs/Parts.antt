@@ -70,7 +70,6 @@ abbrev pub Rule : Type 0 → Type 0
 Rule A = Place → List Reading → Answer A
 
 infixl 10 ◌>>=◌
-
 abbrev pub ◌>>=◌ : {A B : Type 0} → Answer A → (A → Answer B) → Answer B
 answer >>= next = and_then answer next
 

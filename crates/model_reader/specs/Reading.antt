@@ -1,9 +1,7 @@
 -- What each form is read as, and what each text is.
-use Rattle.std.specs.Prelude.{◌≡◌, ℕ, ◌+◌, List, [], ◌∷◌, map, length, Result, Ok, Err, Option, Some, None, codes}
+use Rattle.std.specs.Prelude.{◌≡◌, ℕ, ◌+◌, List, [], map, length, Ok, Err, Some, None, codes}
 use Rattle.rup_base.specs.declared.arg.Place.{Place}
-use Rattle.rup_base.specs.declared.refusal.Refusal.{Refusal}
 use Rattle.rup_base.specs.declared.refusal.Refusal.TheVariants.{OverLimit}
-use Rattle.rup_base.specs.declared.refusal.Limit.{Limit}
 use Rattle.sx_text.specs.declared.tree.Sx.{Sx, Sx-F, fold-Sx}
 use Rattle.sx_text.specs.declared.tree.Sx.TheOpen as x
 use Rattle.sx_text.specs.Forms.{place, read}
@@ -70,7 +68,8 @@ reading = fold-Sx Reading reading_step
 abbrev pub model_of_forms : ℕ → List Sx → Answer Model
 model_of_forms size forms = whole (place 0 (size + 1)) (map reading forms)
 
--- the bytes are a text of this model, whatever its size
+-- the bytes are a text of this model, whatever its size; their forms do not depend on the word, here 0, that
+-- names their file
 abbrev pub Reads : List ℕ → Model → Type 0
 Reads bytes m = (forms : List Sx) × (read 0 bytes ≡ Ok forms) × (model_of_forms (length bytes) forms ≡ Ok m)
 

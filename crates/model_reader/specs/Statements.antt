@@ -1,5 +1,5 @@
 -- The rules of statements.
-use Rattle.std.specs.Prelude.{ℕ, List, [], ◌∷◌, Ok, Option, Some, None, codes, if◌then◌else◌}
+use Rattle.std.specs.Prelude.{List, [], ◌∷◌, Ok, codes}
 use Rattle.model_syntax.specs.declared.expr.Expr.{Expr}
 use Rattle.model_syntax.specs.declared.stmt.Le.{Le}
 use Rattle.model_syntax.specs.declared.stmt.Stmt.{Stmt}
@@ -8,7 +8,7 @@ use Rattle.model_reader.specs.declared.words.StmtWord.{StmtWord}
 use Rattle.model_reader.specs.declared.words.StmtWord.TheVariants as word
 use Rattle.model_reader.specs.Words.{stmt_word}
 use Rattle.model_reader.specs.Expressions.{expr}
-use Rattle.model_reader.specs.Parts.{Answer, Reading, Kind, Rule, Name, ◌>>=◌, wrong, nth, end, headed, name, known}
+use Rattle.model_reader.specs.Parts.{Kind, Rule, Name, ◌>>=◌, wrong, nth, end, headed, name, known}
 
 abbrev pub names : Kind (List Name)
 names f = f.names

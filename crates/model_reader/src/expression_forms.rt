@@ -82,9 +82,7 @@ pub fn expr_form(alloc: Global, e: &Expr) -> Result<Sx, NoMemory>
         Expr::ToWord(part) => one_form(alloc, b"word", part),
         Expr::ToByte(part) => one_form(alloc, b"byte", part),
         Expr::Get(a, index) => get_form(alloc, a, index),
-        Expr::Tab(scalar, entries, index) => {
-            tab_form(alloc, *scalar, entries.as_slice(), index)
-        }
+        Expr::Tab(scalar, entries, index) => { tab_form(alloc, *scalar, entries.as_slice(), index) }
     }
 }
 
@@ -120,12 +118,7 @@ fn get_form(alloc: Global, a: &Name, index: &Expr) -> Result<Sx, NoMemory>
 }
 
 #[cycle(expr)]
-fn tab_form(
-    alloc: Global,
-    scalar: Scalar,
-    entries: &[u32],
-    index: &Expr,
-) -> Result<Sx, NoMemory>
+fn tab_form(alloc: Global, scalar: Scalar, entries: &[u32], index: &Expr) -> Result<Sx, NoMemory>
     ensures form { IfOk result (λ form. form ≡ printing.table scalar entries.now (printing.expr index.now)) }
     ensures formed { OnOk result (formed.numbers_formed entries.now && formed.expr_formed index.now ≡ true) }
 {

@@ -5,7 +5,6 @@
 //! reader follows it part by part, and the first part that is refused says where the text is no model.
 #![tactic(auto)]
 
-mod exactness;
 mod expression_forms;
 mod expressions;
 mod fact_forms;
@@ -23,7 +22,6 @@ mod statement_forms;
 mod statements;
 mod words;
 
-pub use exactness::models_are_read_exactly;
 pub use printer::{print_expr, print_model};
 pub use reader::read_model;
 pub use round_trip::printed_model_is_read;

@@ -1,6 +1,7 @@
 //! The reader of models.
-ghost use Rattle.std.specs.Prelude.{◌≡◌, ◌≤◌, ◌^◌, length, IfOk};
+ghost use Rattle.std.specs.Prelude.{◌≡◌, ◌≤◌, ◌^◌, length, Ok, IfOk};
 ghost use Rattle.rup_base.specs.Answers.{Answers};
+ghost use Rattle.model_syntax.specs.declared.program.Model as program;
 ghost use Rattle.model_syntax.specs.Limits.{Within};
 ghost use Rattle.model_reader.specs.Reading as spec;
 
@@ -19,6 +20,15 @@ use sx_text::read_forms;
 pub fn read_model(alloc: Global, word: u32, bytes: &[u8]) -> Result<Model, Fail>
     requires { length bytes.now ≤ 2 ^ 24 }
     ensures exact { Answers result (spec.read_model word bytes.now) }
+    ensures only { IfOk result (λ m. spec.Reads bytes.now m × Within m) }
+    ensures all { (m : program.Model) → spec.Reads bytes.now m → Within m → Answers result (Ok m) }
+{
+    model_of_text(alloc, word, bytes)
+}
+
+fn model_of_text(alloc: Global, word: u32, bytes: &[u8]) -> Result<Model, Fail>
+    requires { length bytes.now ≤ 2 ^ 24 }
+    ensures { Answers result (spec.read_model word bytes.now) }
 {
     let forms = read_forms(alloc, word, bytes)?;
     let place = Place {

@@ -9,11 +9,10 @@ ghost use Rattle.model_reader.specs.Formed.{model_formed};
 ghost use Rattle.model_reader.specs.Printing as printing;
 ghost use Rattle.model_reader.specs.Reading as reading;
 
-/// A law: each model that the text of models can spell, within the limits and with at most 256 lists open at
-/// one place of its spelling, is read back from its canonical spelling.
+/// A law: each model whose names are names and whose numbers are words, as all models of the code, is read
+/// back from its canonical spelling, where the text of models can spell its tables, it is within the limits,
+/// and at most 256 lists are open at one place of the spelling.
 pub fn printed_model_is_read()
-    ensures {
-        (word : ℕ) (m : Model) → model_formed m ≡ true → Spellable m → Within m → levels (printing.model m) ≤ deepest
-        → reading.read_model word (printing.spelling m) ≡ Ok m
-    }
+    ensures { (word : ℕ) (m : Model) → model_formed m ≡ true → Spellable m → Within m → levels (printing.model m) ≤ deepest
+        → reading.read_model word (printing.spelling m) ≡ Ok m }
 {}

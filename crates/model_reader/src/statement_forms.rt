@@ -92,7 +92,12 @@ fn move_form(alloc: Global, b: &Name, a: &Name, index: &Expr, value: &Expr) -> R
 }
 
 /// Puts the names and the facts that a block keeps behind the forms.
-fn push_kept(alloc: Global, forms: &mut List<Sx>, names: &[Name], keep: &[Le]) -> Result<(), NoMemory>
+fn push_kept(
+    alloc: Global,
+    forms: &mut List<Sx>,
+    names: &[Name],
+    keep: &[Le],
+) -> Result<(), NoMemory>
     ensures form { OnOk result (forms.new ≡ forms.old ++ printing.names names.now ∷ printing.keep keep.now ∷ []) }
     ensures formed { OnOk result (formed.names_formed names.now && formed.facts_formed keep.now ≡ true) }
 {

@@ -38,6 +38,7 @@ site f code text start base =
       tables = f.tables;
       base = base;
       slots = f.vars;
+      words = f.vars;
       vars = f.vars;
       place = slot_of;
       far = table_far f (length code);
@@ -121,6 +122,7 @@ module _ (f : Flat) (code : List Instr) (text : List ℕ) (stack : ℕ) (emits :
         base_aligned = omega arith;
         frame_ends = omega arith;
         few = omega arith;
+        fit = omega arith;
         apart = λ a inside frame. ready.apart.0.0 a (in_image a inside) (in_stack a frame);
         stands = code_at;
         table = table_at;

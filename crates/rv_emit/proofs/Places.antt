@@ -25,7 +25,7 @@ module _ (l : Site) (m : State) (sound : Sound l m) where
   fetch_does mem vars k s d x v (Slot j) small before below is word there =
       let valid : j < l.slots = subst (λ p. IsValid l p) is (sound.valid x below) in
       let same : d % 32 ≡ d = omega arith in
-      let address : plus (register s.regs 2) (extended 2048 (4 * j % 4096)) ≡ l.base + 4 * j = rw before.sp (slot_offset l.base j (omega (arith, sound.few)) (omega (arith, sound.frame_ends))) in
+      let address : plus (register s.regs 2) (extended 2048 (4 * j % 4096)) ≡ l.base + 4 * j = rw before.sp (slot_offset l.base j (omega (arith, sound.few, sound.fit)) (omega (arith, sound.frame_ends, sound.fit))) in
       rw same (loads_is s d 4 _ (l.base + 4 * j) v address (omega (arith, sound.base_aligned)) there)
   fetch_does mem vars k s d x v (Register r) small before below is word there =
       let valid : l.held r ≡ true = subst (λ p. IsValid l p) is (sound.valid x below) in
@@ -43,12 +43,12 @@ module _ (l : Site) (m : State) (sound : Sound l m) where
   saved_memory : (mem real : Bytes) (j v : ℕ) → j < l.slots → Memory l m mem real → Memory l m mem (with_number real 4 (l.base + 4 * j) v)
   saved_memory mem real j v slot memory =
       record {
-        seen = λ a b found. get-with_number_other 4 real (l.base + 4 * j) v a (λ low high. memory.off_frame a (ap (λ o. is_some o) found) (omega arith, omega arith)) ∙ memory.seen a b found;
+        seen = λ a b found. get-with_number_other 4 real (l.base + 4 * j) v a (λ low high. memory.off_frame a (ap (λ o. is_some o) found) (omega arith, omega (arith, sound.fit))) ∙ memory.seen a b found;
         off_image = memory.off_image;
         off_frame = memory.off_frame;
         others = λ a outside none. get-with_number_other 4 real (l.base + 4 * j) v a (λ low high. outside (omega arith, omega arith)) ∙ memory.others a outside none;
         stay = λ a there. mapped-with_number 4 real (l.base + 4 * j) v a (memory.stay a there);
-        no_more = λ a there. memory.no_more a (mapped_before_with_number 4 real (l.base + 4 * j) v a (λ q low high. memory.stay q (sound.mapped q (omega arith, omega arith))) there);
+        no_more = λ a there. memory.no_more a (mapped_before_with_number 4 real (l.base + 4 * j) v a (λ q low high. memory.stay q (sound.mapped q (omega arith, omega (arith, sound.fit)))) there);
         bytes = bytes-with_number 4 real (l.base + 4 * j) v memory.bytes;
       }
 
@@ -87,8 +87,8 @@ module _ (l : Site) (m : State) (sound : Sound l m) where
   save_slot mem vars k s d x v j small before has below is word holds =
       let valid : j < l.slots = subst (λ p. IsValid l p) is (sound.valid x below) in
       let same : d % 32 ≡ d = omega arith in
-      let address : plus (register s.regs 2) (extended 2048 (4 * j % 4096)) ≡ l.base + 4 * j = rw before.sp (slot_offset l.base j (omega (arith, sound.few)) (omega (arith, sound.frame_ends))) in
-      let mapped : IsSome (number_at s.mem 4 (l.base + 4 * j)) = is_some-number_at 4 s.mem (l.base + 4 * j) (λ q low high. before.memory.stay q (sound.mapped q (omega arith, omega arith))) in
+      let address : plus (register s.regs 2) (extended 2048 (4 * j % 4096)) ≡ l.base + 4 * j = rw before.sp (slot_offset l.base j (omega (arith, sound.few, sound.fit)) (omega (arith, sound.frame_ends, sound.fit))) in
+      let mapped : IsSome (number_at s.mem 4 (l.base + 4 * j)) = is_some-number_at 4 s.mem (l.base + 4 * j) (λ q low high. before.memory.stay q (sound.mapped q (omega arith, omega (arith, sound.fit)))) in
       let value : register s.regs (d % 32) ≡ v = rw same holds in
       let four : v < 256 ^ 4 = omega arith in
       let stored : Holds l (with_stored s 4 (l.base + 4 * j) v) (l.place x) v = subst (λ p. Holds l (with_stored s 4 (l.base + 4 * j) v) p v) (sym is) (number_at-with_number 4 s.mem (l.base + 4 * j) v four) in

@@ -78,10 +78,10 @@ module _ (l : Site) (m : State) (sound : Sound l m) where
       register-with_register_other s.regs r v q apart ∙ there
 
   -- the instruction saves, and the machine stands behind it
-  record Saves (mem : Bytes) (vars : Vars) (k : ℕ) (s : State) (d x v : ℕ) (p : At) : Type 0 where
-    after : State
-    does : effect (save d p) s ≡ Ok after
-    stands : Before l m mem (insert vars x v) (k + 1) after
+  pub record Saves (mem : Bytes) (vars : Vars) (k : ℕ) (s : State) (d x v : ℕ) (p : At) : Type 0 where
+    pub after : State
+    pub does : effect (save d p) s ≡ Ok after
+    pub stands : Before l m mem (insert vars x v) (k + 1) after
 
   save_slot : (mem : Bytes) (vars : Vars) (k : ℕ) (s : State) (d x v j : ℕ) → d < 32 → Before l m mem vars k s → Has l.code k (save d (Slot j)) → x < l.vars → l.place x ≡ Slot j → v < 2 ^ 32 → register s.regs d ≡ v → Saves mem vars k s d x v (Slot j)
   save_slot mem vars k s d x v j small before has below is word holds =
@@ -129,7 +129,7 @@ module _ (l : Site) (m : State) (sound : Sound l m) where
       held_is_not_free : (q : ℕ) → IsFree l q → q ≡ r → l.held r ≡ true → ⊥
       held_is_not_free q free e valid = let held : l.held q ≡ true = ap l.held e ∙ valid in let not : l.held q ≡ false = free.not_held in absurd (cc)
 
-  saves : (mem : Bytes) (vars : Vars) (k : ℕ) (s : State) (d x v : ℕ) (p : At) → d < 32 → Before l m mem vars k s → Has l.code k (save d p) → x < l.vars → l.place x ≡ p → v < 2 ^ 32 → register s.regs d ≡ v → Saves mem vars k s d x v p
+  pub saves : (mem : Bytes) (vars : Vars) (k : ℕ) (s : State) (d x v : ℕ) (p : At) → d < 32 → Before l m mem vars k s → Has l.code k (save d p) → x < l.vars → l.place x ≡ p → v < 2 ^ 32 → register s.regs d ≡ v → Saves mem vars k s d x v p
   saves mem vars k s d x v (Slot j) small before has below is word holds = save_slot mem vars k s d x v j small before has below is word holds
   saves mem vars k s d x v (Register r) small before has below is word holds = save_register mem vars k s d x v r small before has below is word holds
 

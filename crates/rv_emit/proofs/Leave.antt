@@ -1,6 +1,5 @@
 -- The frame is given back, and the code returns.
 use Rattle.std.proofs.Common.{◌≡◌, ◌≢◌, ℕ, ◌+◌, ◌*◌, ◌/◌, ◌%◌, ◌^◌, ◌<◌, List, [], ◌∷◌, ◌++◌, length, Ok, Some, slice_get, refl, sym, ap, ◌∙◌, subst, arith, append_assoc, length-append}
-use Rattle.flat_lang.specs.State.{Vars}
 use Rattle.rv_code.specs.Field.{reg, imm12}
 use Rattle.rv_code.specs.declared.instruction.Instr.{Instr}
 use Rattle.rv_code.specs.declared.instruction.Instr.TheVariants.{Addi, Jalr}
@@ -12,7 +11,7 @@ use Rattle.rv_machine.specs.Step.{jumps}
 use Rattle.rv_machine.proofs.Registers.{register-with_register_other, register-with_register_same}
 use Rattle.rv_machine.proofs.Runs.{Leads, stays}
 use Rattle.rv_emit.proofs.Does.{extended_small, nothing_added}
-use Rattle.rv_emit.proofs.Site.{Site, InCode, Sound, Memory, Before}
+use Rattle.rv_emit.proofs.Site.{Site, InCode, Sound, Memory}
 use Rattle.rv_emit.proofs.Runs.{HasAll, set_reg, gives_is}
 use Rattle.rv_emit.proofs.Jumps.{at_pc}
 use Rattle.rv_emit.proofs.Exit.{Is, Stood, leads_stood}
@@ -63,11 +62,13 @@ module _ (l : Site) (m : State) (sound : Sound l m) (mem : Bytes) (e : State) (m
       let then : Stood l m sound mem (k + 1) t = record { pc = omega (arith, ending.pc, sound.ends); memory = subst (λ b. Memory l m mem b) (sym ending.mem) memory } in
       let ra_is : register t.regs 1 ≡ ra = register-with_register_other s.regs 2 sp 1 (λ q. omega arith) ∙ goes_to in
       let target : plus (register t.regs 1) (extended 2048 (0 % 4096)) / 2 * 2 ≡ ra = rw (ra_is, nothing_added ra word) (omega arith) in
-      let second = leads_stood l m sound mem 1 (k + 1) (Jalr (reg 0) (reg 1) (imm12 0)) s t (at_pc t ra) first then returns (jumps_away t _ ra target aligned) in
-      (at_pc t ra, record {
-        run = second;
-        pc = refl;
-        sp_is = register-with_register_same s.regs 2 sp (omega arith) (omega (arith, ending.count));
-        mem = ending.mem;
-        others = λ r other. register-with_register_other s.regs 2 sp r other;
-      })
+      let second = leads_stood l m sound mem 1 (k + 1) (Jalr (reg 0) (reg 1) (imm12 0)) s t (at_pc t ra) first then returns (jumps_away t _ ra target aligned) in (
+        at_pc t ra,
+        record {
+          run = second;
+          pc = refl;
+          sp_is = register-with_register_same s.regs 2 sp (omega arith) (omega (arith, ending.count));
+          mem = ending.mem;
+          others = λ r other. register-with_register_other s.regs 2 sp r other;
+        },
+      )

@@ -1,5 +1,5 @@
 -- Code that stands for a call, as a site; and the ready state, as one at which the code is entered.
-use Rattle.std.proofs.Common.{Bool, true, ◌≡◌, ℕ, zero, suc, ◌+◌, ◌-◌, ◌*◌, ◌^◌, ◌<◌, ◌≤◌, inl, inr, false, List, [], ◌∷◌, map, length, Option, Some, None, IsSome, slice_get, refl, ap, ◌∙◌, subst, arith, length-append, sym, is_some, ◌≢◌, ◌⊎◌, ◌++◌}
+use Rattle.std.proofs.Common.{Bool, true, ◌≡◌, ℕ, zero, suc, ◌+◌, ◌-◌, ◌*◌, ◌^◌, ◌<◌, ◌≤◌, inl, inr, false, List, [], ◌∷◌, map, length, Option, Some, None, IsSome, slice_get, refl, ap, ◌∙◌, subst, arith, length-append, is_some, ◌≢◌}
 use Rattle.std.specs.Prelude.{option_map}
 use Rattle.std.specs.List.{AllByRecursion, flat_map}
 use Rattle.std.specs.Int.{w32, to_le_bytes}
@@ -145,8 +145,8 @@ module _ (f : Flat) (p : Placement) (held : ℕ → Bool) (placement : IsPlaceme
         behind = omega arith;
         inside = λ a b at. let within = slice_get_within text (t.offset + a) b (in_text t.offset a b (t.there a b at)) in omega arith;
         stands = λ a b at.
-        let place : start + 4 * length code + (t.offset + a) ≡ start + table_far f (length code) k + a = omega arith in
-        subst (λ q. get s.mem q ≡ Some b) place (text_stands (t.offset + a) b (in_text t.offset a b (t.there a b at)));
+            let place : start + 4 * length code + (t.offset + a) ≡ start + table_far f (length code) k + a = omega arith in
+            subst (λ q. get s.mem q ≡ Some b) place (text_stands (t.offset + a) b (in_text t.offset a b (t.there a b at)));
       }
     where
       in_text : (o a b : ℕ) → slice_get (text_of f.tables) (o + a) ≡ Some b → slice_get text (o + a) ≡ Some b
@@ -236,9 +236,9 @@ module _ (f : Flat) (p : Placement) (held : ℕ → Bool) (placement : IsPlaceme
           behind = t.behind;
           inside = t.inside;
           stands = λ a b at.
-          let behind = t.behind in
-          let inside = t.inside a b at in
-          unchanged (start + far + a) (λ frame. off_stack (start + far + a) (omega arith, omega arith) frame) ∙ t.stands a b at;
+              let behind = t.behind in
+              let inside = t.inside a b at in
+              unchanged (start + far + a) (λ frame. off_stack (start + far + a) (omega arith, omega arith) frame) ∙ t.stands a b at;
         }
 
     pub sound : Sound here m

@@ -1,9 +1,7 @@
 -- Registers come back from words of the frame.
-use Rattle.std.proofs.Common.{◌≡◌, ◌≢◌, ℕ, zero, suc, ◌+◌, ◌*◌, ◌/◌, ◌%◌, ◌^◌, ◌<◌, ◌≤◌, List, [], ◌∷◌, ◌++◌, length, Some, Ok, slice_get, refl, sym, ap, ◌∙◌, subst, arith, ◌⊎◌, inl, inr}
+use Rattle.std.proofs.Common.{◌≡◌, ℕ, zero, suc, ◌+◌, ◌*◌, ◌%◌, ◌<◌, ◌≤◌, List, [], ◌∷◌, length, Some, slice_get, refl, sym, ap, ◌∙◌, subst, arith, ◌⊎◌, inl, inr}
 use Rattle.std.proofs.lemmas.Bool.{cases_eq}
-use Rattle.flat_lang.specs.State.{Vars}
 use Rattle.reg_alloc.specs.declared.plan.At.TheVariants.{Slot}
-use Rattle.rv_code.specs.declared.instruction.Instr.{Instr}
 use Rattle.rv_machine.specs.Word.{plus}
 use Rattle.rv_machine.specs.Fields.{extended}
 use Rattle.rv_machine.specs.State.{Bytes, State, register, with_register, number_at}
@@ -14,9 +12,9 @@ use Rattle.rv_machine.proofs.Runs.{Leads, stays, leads_then}
 use Rattle.rv_emit.specs.Code.{fetch}
 use Rattle.rv_emit.specs.Whole.{restores}
 use Rattle.rv_emit.proofs.Does.{loads_is, slot_offset}
-use Rattle.rv_emit.proofs.Site.{Site, InCode, Sound, Memory, Before}
-use Rattle.rv_emit.proofs.Runs.{Has, HasAll, set_reg, gives_is}
-use Rattle.rv_emit.proofs.Exit.{Is, Stood, leads_stood, Late}
+use Rattle.rv_emit.proofs.Site.{Site, InCode, Sound, Memory}
+use Rattle.rv_emit.proofs.Runs.{HasAll, set_reg, gives_is}
+use Rattle.rv_emit.proofs.Exit.{Stood, leads_stood}
 
 -- the body has ended at e, and the frame has not yet been given back
 pub record Ending (l : Site) (e : State) (k : ℕ) (s : State) : Type 0 where
@@ -63,22 +61,24 @@ module _ (l : Site) (m : State) (sound : Sound l m) (mem : Bytes) (e : State) (m
       let next = has.0.next in
       let run = leads_stood l m sound mem 0 k (fetch r (Slot (first + j))) s s t (stays (InCode l) s) (stood_ending k s ending) (record { stands = has.0.stands; inside = omega arith }) (does ∙ gives_is s r value) in
       let then : Ending l e (k + 1) t = record {
-            pc = omega (arith, ending.pc, sound.ends);
-            count = length-with_register s.regs r value ∙ ending.count;
-            mem = ending.mem;
-            sp = register-with_register_other s.regs r value 2 (λ q. omega arith) ∙ ending.sp;
-          } in
+        pc = omega (arith, ending.pc, sound.ends);
+        count = length-with_register s.regs r value ∙ ending.count;
+        mem = ending.mem;
+        sp = register-with_register_other s.regs r value 2 (λ q. omega arith) ∙ ending.sp;
+      } in
       let rest = restores_lead rs first (j + 1) (k + 1) t (record { from = λ i q found. are.from (suc i) q found; to = λ i q found. are.to (suc i) q found }) (omega arith) (λ i q found. let place : first + j + suc i ≡ first + (j + 1) + i = omega arith in subst (λ n. number_at e.mem 4 (l.base + 4 * n) ≡ Some (register m0.regs q)) place (keeps (suc i) q found)) then has.1 in
       let place : k + 1 + length rs ≡ k + suc (length rs) = omega arith in
       let steps : 1 + length rs ≡ suc (length rs) = omega arith in
-      let here : register t.regs r ≡ value = register-with_register_same s.regs r value (omega arith) (omega (arith, ending.count)) in
-      (rest.0, record {
-        run = subst (λ n. Leads (InCode l) s n rest.0) steps (leads_then (InCode l) s 1 t (length rs) rest.0 run rest.1.run);
-        ending = subst (λ n. Ending l e n rest.0) place rest.1.ending;
-        right = λ q is. rest.1.right q (kept_right q value here is (cases_eq q r));
-        got = got_of rest.0 (rest.1.right r here) rest.1.got;
-        others = λ q out. rest.1.others q (λ i found. out (suc i) found) ∙ register-with_register_other s.regs r value q (λ is. out 0 (ap Some (sym is)));
-      })
+      let here : register t.regs r ≡ value = register-with_register_same s.regs r value (omega arith) (omega (arith, ending.count)) in (
+        rest.0,
+        record {
+          run = subst (λ n. Leads (InCode l) s n rest.0) steps (leads_then (InCode l) s 1 t (length rs) rest.0 run rest.1.run);
+          ending = subst (λ n. Ending l e n rest.0) place rest.1.ending;
+          right = λ q is. rest.1.right q (kept_right q value here is (cases_eq q r));
+          got = got_of rest.0 (rest.1.right r here) rest.1.got;
+          others = λ q out. rest.1.others q (λ i found. out (suc i) found) ∙ register-with_register_other s.regs r value q (λ is. out 0 (ap Some (sym is)));
+        },
+      )
     where
       kept_right : (q value : ℕ) → register (with_register s.regs r (register m0.regs r)) r ≡ register m0.regs r → register s.regs q ≡ register m0.regs q → (q ≡ r) ⊎ (q ≡ r → ⊥) → register (with_register s.regs r (register m0.regs r)) q ≡ register m0.regs q
       kept_right q value here is (inl same) = subst (λ x. register (with_register s.regs r (register m0.regs r)) x ≡ register m0.regs x) (sym same) here

@@ -1,5 +1,5 @@
 -- The call of emitted code returns.
-use Rattle.std.proofs.Common.{◌≡◌, ◌≢◌, ℕ, zero, suc, ◌+◌, ◌-◌, ◌%◌, ◌^◌, ◌<◌, ◌≤◌, ◌⊎◌, inl, inr, true, false, List, [], ◌∷◌, ◌++◌, map, length, Result, Ok, Err, All, refl, sym, ap, ◌∙◌, subst, arith, append_assoc, length-append, Bool, Option, Some, None, is_some, IsSome, slice_get, ◌*◌}
+use Rattle.std.proofs.Common.{◌≡◌, ◌≢◌, ℕ, zero, suc, ◌+◌, ◌-◌, ◌%◌, ◌^◌, ◌<◌, ◌≤◌, ◌⊎◌, inl, inr, true, false, List, [], ◌∷◌, ◌++◌, map, length, Result, Ok, Err, All, refl, sym, ap, ◌∙◌, subst, arith, append_assoc, length-append, Bool, Option, Some, None, is_some, ◌*◌}
 use Rattle.std.specs.FinMap.{get, get-empty}
 use Rattle.std.specs.List.{AllByRecursion}
 use Rattle.std.proofs.lemmas.Bool.{cases_eq}
@@ -22,7 +22,7 @@ use Rattle.rv_machine.proofs.Registers.{register-with_register_same, register-wi
 use Rattle.rv_machine.proofs.Runs.{Leads, stays, leads_then}
 use Rattle.rv_emit.specs.Fit.{all_fit}
 use Rattle.rv_emit.specs.Whole.{Placement, behind, stack_of, saves, restores, moves_in, moves_out, body_with, code_with}
-use Rattle.rv_emit.specs.Ready.{Range, Ready, IsPart, arguments}
+use Rattle.rv_emit.specs.Ready.{Range, Within, stack_range, Ready, IsPart, arguments}
 use Rattle.rv_emit.specs.Returns.{IsSaved, IsUnderWay, Returns, RunsAs}
 use Rattle.rv_emit.proofs.Site.{Site, InCode, InSlots, Sound, Memory, IsFree, Before}
 use Rattle.rv_emit.proofs.Runs.{Has, HasAll, has_front, has_back, Reaches, gives_is}
@@ -31,7 +31,7 @@ use Rattle.rv_emit.proofs.Blocks.{block_runs}
 use Rattle.rv_emit.proofs.Entry.{arguments_reach}
 use Rattle.rv_emit.proofs.Exit.{Is, leads_stood, Late, Results, results_lead}
 use Rattle.rv_emit.proofs.Leave.{has_all, is_last, Left, leaves}
-use Rattle.rv_emit.proofs.Placed.{IsPlacement, Emits, behind_is, base, before_saving, here, taken, nothing, in_stack, saving_sound, begins_saving, sound, first_memory, begins, same_register, same_arguments}
+use Rattle.rv_emit.proofs.Placed.{IsPlacement, Emits, behind_is, before_saving, here, taken, nothing, in_stack, saving_sound, begins_saving, sound, begins, same_register, same_arguments}
 use Rattle.rv_emit.proofs.Saving.{saves_at, AreFree, Saved, saves_lead}
 use Rattle.rv_emit.proofs.Restoring.{Ending, Keeps, Back, restores_lead}
 use Rattle.rv_emit.specs.Code.{save}

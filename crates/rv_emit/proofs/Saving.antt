@@ -1,5 +1,5 @@
 -- Registers go into words of the frame.
-use Rattle.std.proofs.Common.{◌≡◌, ◌≢◌, ℕ, zero, suc, ◌+◌, ◌*◌, ◌%◌, ◌^◌, ◌<◌, ◌≤◌, List, [], ◌∷◌, ◌++◌, length, Some, slice_get, refl, sym, ap, ◌∙◌, subst, arith}
+use Rattle.std.proofs.Common.{◌≡◌, ℕ, zero, suc, ◌+◌, ◌^◌, ◌<◌, ◌≤◌, List, [], ◌∷◌, length, Some, slice_get, refl, ap, ◌∙◌, subst, arith}
 use Rattle.std.specs.FinMap.{get, insert}
 use Rattle.flat_lang.specs.State.{Vars}
 use Rattle.reg_alloc.specs.declared.plan.At.{At}
@@ -9,8 +9,8 @@ use Rattle.rv_machine.proofs.Memory.{get-insert_same, get-insert_other}
 use Rattle.rv_machine.proofs.Runs.{Leads, stays, leads_on, leads_then}
 use Rattle.rv_emit.specs.Code.{save}
 use Rattle.rv_emit.proofs.Site.{Site, InCode, Sound, IsFree, Before}
-use Rattle.rv_emit.proofs.Runs.{Has, HasAll, step_at}
-use Rattle.rv_emit.proofs.Places.{Saves, saves}
+use Rattle.rv_emit.proofs.Runs.{HasAll, step_at}
+use Rattle.rv_emit.proofs.Places.{saves}
 
 abbrev pub saves_at : (ℕ → At) → ℕ → List ℕ → List Instr
 saves_at place j [] = []

@@ -22,7 +22,7 @@ use Rattle.rv_machine.proofs.Memory.{get-with_number_other, mapped-with_number, 
 use Rattle.rv_emit.specs.Code.{fetch, save, load_at, store_to, upper, ahead}
 use Rattle.rv_emit.proofs.Bytes.{Seen, seen-with_number, bytes-with_number, Placed, found_by, load_found, store_found, stored_number, tested}
 use Rattle.rv_emit.proofs.Does.{loads_is, stores_is, with_stored, nothing_added, parts_sum}
-use Rattle.rv_emit.proofs.Site.{Site, InFrame, IsValid, TableAt, Sound, Memory, Holds, Before}
+use Rattle.rv_emit.proofs.Site.{Site, InFrame, InSlots, IsValid, TableAt, Sound, Memory, Holds, Before}
 use Rattle.rv_emit.proofs.Runs.{Has, HasAll, Reaches, same_in_image, next_pc, step_reach, set_reach, given_reach, fuelled_reach, ends_at}
 use Rattle.rv_emit.proofs.Places.{fetch_reach, save_reach}
 use Rattle.rv_emit.proofs.Straight.{Enough}
@@ -81,7 +81,7 @@ module _ (l : Site) (m : State) (sound : Sound l m) where
         bytes = bytes-with_number n real at v memory.bytes;
       }
     where
-      by_byte : (a : ℕ) → (InFrame l a → ⊥) → get (with_number mem n at v) a ≡ None → (o : Option ℕ) → get mem a ≡ o → get (with_number real n at v) a ≡ get m.mem a
+      by_byte : (a : ℕ) → (InSlots l a → ⊥) → get (with_number mem n at v) a ≡ None → (o : Option ℕ) → get mem a ≡ o → get (with_number real n at v) a ≡ get m.mem a
       by_byte a outside none None is =
           get-with_number_other n real at v a (λ low high. let there : IsSome (get mem a) = mapped a low high in absurd (cc)) ∙ memory.others a outside is
       by_byte a outside none (Some b) is =
@@ -92,7 +92,7 @@ module _ (l : Site) (m : State) (sound : Sound l m) where
   stored_held s n at v x c (Register r) off below is there = there
   stored_held s n at v x c (Slot j) off below is there =
       let valid : j < l.slots = subst (λ p. IsValid l p) is (sound.valid x below) in
-      number_at-with_number_other 4 (l.base + 4 * j) n s.mem at v (λ q low high from to. off q from to (omega arith, omega arith)) ∙ there
+      number_at-with_number_other 4 (l.base + 4 * j) n s.mem at v (λ q low high from to. off q from to (omega arith, omega (arith, sound.fit))) ∙ there
 
   pub before_stored : (mem : Bytes) (vars : Vars) (k : ℕ) (i : Instr) (s : State) (n at v : ℕ) → Before l m mem vars k s → Has l.code k i → ((q : ℕ) → at ≤ q → q < at + n → IsSome (get mem q)) → Before l m (with_number mem n at v) vars (k + 1) (with_stored s n at v)
   before_stored mem vars k i s n at v before has mapped =

@@ -1,5 +1,5 @@
 -- The whole code is put together from its parts, and what holds of it.
-use Rattle.std.proofs.Common.{◌≡◌, ℕ, zero, suc, ◌+◌, ◌-◌, ◌*◌, ◌%◌, ◌<◌, ◌≤◌, ◌⊎◌, inl, inr, List, [], ◌∷◌, ◌++◌, length, map, sum, Some, slice_get, true, refl, sym, ap, ◌∙◌, subst, arith, length-append, append-nil}
+use Rattle.std.proofs.Common.{◌≡◌, ℕ, zero, suc, ◌+◌, ◌-◌, ◌*◌, ◌%◌, ◌<◌, ◌≤◌, ◌⊎◌, inl, inr, List, [], ◌∷◌, ◌++◌, length, map, sum, Some, slice_get, true, refl, sym, ap, ◌∙◌, subst, arith, length-append, append-nil, false}
 use Rattle.std.specs.Prelude.{slice_index_or}
 use Rattle.std.proofs.lemmas.Bool.{cases_lt}
 use Rattle.std.proofs.lemmas.List.{length-map}
@@ -23,10 +23,10 @@ use Rattle.rv_emit.specs.Fit.{all_fit}
 use Rattle.rv_emit.specs.Names.{instr_names, named_in}
 use Rattle.rv_emit.specs.Returns.{RunsAs}
 use Rattle.rv_emit.specs.Tables.{filled, text_of, offsets_from}
-use Rattle.rv_emit.specs.Whole.{slot_of, frame_bytes, moves_in, moves_out, leave, body_of, table_far, code_of}
+use Rattle.rv_emit.specs.Whole.{slots_alone, slot_of, frame_bytes, moves_in, moves_out, leave, body_of, table_far, code_of}
 use Rattle.rv_emit.proofs.Emitting.{adds_length, adds_then, sum_cons}
 use Rattle.rv_emit.proofs.NamedCode.{named-append, block_named}
-use Rattle.rv_emit.proofs.Placed.{Emits}
+use Rattle.rv_emit.proofs.Placed.{IsPlacement, Emits}
 use Rattle.rv_emit.proofs.Returned.{length-moves_in, runs_as}
 use Rattle.rv_emit.proofs.Straight.{Enough}
 use Rattle.rv_emit.proofs.TableText.{filled_few}
@@ -86,7 +86,7 @@ assembled f total stack offsets body c0 c1 c2 c3 c4 c5 c6 stack_is offsets_are b
     let b1 : Adds [] c1 (first ∷ []) = subst (λ c. Adds c c1 (first ∷ [])) none (subst (λ n. Adds c0 c1 (Addi (reg 2) (reg 2) (imm12 (4096 - n)) ∷ [])) stack_is a1) in
     let l1 = adds_length [] c1 (first ∷ []) b1 in
     let l2 = adds_length c1 c2 ins a2 in
-    let n_ins = length-moves_in f.args 0 in
+    let n_ins = length-moves_in slot_of f.args 0 in
     let start : length c2 ≡ 1 + f.args = omega arith in
     let e1 : Adds c2 c3 (block_code slot_of (λ k. 4 * total + slice_index_or offsets k 0) body (1 + f.args)) = subst (λ n. Adds c2 c3 (block_code slot_of (λ k. 4 * total + slice_index_or offsets k 0) body n)) start a3 in
     let e2 : Adds c2 c3 (block_code slot_of (λ k. 4 * total + slice_index_or offsets k 0) f.body (1 + f.args)) = subst (λ b. Adds c2 c3 (block_code slot_of (λ k. 4 * total + slice_index_or offsets k 0) b (1 + f.args))) body_is e1 in
@@ -123,15 +123,32 @@ named f code words =
     let outs = moves_out slot_of 0 f.rets in
     let end : List Instr = Addi (reg 2) (reg 2) (imm12 (frame_bytes f.vars)) ∷ Jalr (reg 0) (reg 1) (imm12 0) ∷ [] in
     names_same code (code_of f total) words
-    ∙ named-append (moves_in slot_of 0 f.args) (body_of f total ++ leave slot_of (frame_bytes f.vars) f.rets)
-    ∙ ap (λ x. x ++ named_in (body_of f total ++ leave slot_of (frame_bytes f.vars) f.rets)) (nameless_in f.args 0)
-    ∙ named-append (body_of f total) (leave slot_of (frame_bytes f.vars) f.rets)
+    ∙ named-append (moves_in slot_of 0 f.args) (body_of f total ++ leave (slots_alone f.vars) f.rets)
+    ∙ ap (λ x. x ++ named_in (body_of f total ++ leave (slots_alone f.vars) f.rets)) (nameless_in f.args 0)
+    ∙ named-append (body_of f total) (leave (slots_alone f.vars) f.rets)
     ∙ ap (λ x. named_in (body_of f total) ++ x) (named-append outs end ∙ ap (λ x. x ++ named_in end) (nameless_out f.rets 0))
     ∙ append-nil (named_in (body_of f total))
     ∙ block_named slot_of (table_far f total) f.body (1 + f.args)
 
 enough : Enough weights.Weights.LARGE
 enough = record { literal = omega arith; variable = omega arith; operation = omega arith; load = omega arith; table = omega arith; store = omega arith; test = omega arith; turn = omega arith }
+
+-- slots alone serve every code
+alone : (f : Flat) → f.vars ≤ 400 → IsPlacement f (slots_alone f.vars) (λ r. false)
+alone f few =
+    record {
+      few = omega arith;
+      slots = λ x j below is. let same : x ≡ j = cc in omega arith;
+      registers = λ x r below is. absurd (cc);
+      distinct = λ x y xs ys same. cc;
+      from = λ r held. absurd (cc);
+      to = λ r held. absurd (cc);
+      not_argument = λ r held. absurd (cc);
+      kept = λ r held. absurd (cc);
+      saved_from = λ i r found. absurd (cc);
+      saved_to = λ i r found. absurd (cc);
+      saved_not_argument = λ i r found. absurd (cc);
+    }
 
 -- the code runs as its three-address code
 pub runs : (f : Flat) (code : List Instr) (text : List ℕ) (stack : ℕ) → IsWhole f → all_fit f.body ≡ true → f.vars ≤ 400 → map word_of code ≡ map word_of (code_of f (length code)) → length code < 260000 → text ≡ text_of f.tables → stack ≡ frame_bytes f.vars → RunsAs weights.Weights.LARGE f (map word_of code) text stack
@@ -142,8 +159,8 @@ runs f code text stack whole fit few words short text_is stack_is =
     let same_length : length (map word_of code) ≡ length (map word_of exact) = ap length words in
     let size : length code ≡ length exact = omega arith in
     let is : exact ≡ code_of f (length exact) = ap (code_of f) size in
-    let emits : Emits f exact text stack = record { code_is = is; text_is = text_is; stack_is = stack_is; few = few; short = omega arith } in
-    subst (λ ws. RunsAs weights.Weights.LARGE f ws text stack) (sym words) (runs_as weights.Weights.LARGE enough f whole fit exact text stack emits)
+    let emits : Emits f (slots_alone f.vars) exact text stack = record { code_is = is; text_is = text_is; stack_is = stack_is; short = omega arith } in
+    subst (λ ws. RunsAs weights.Weights.LARGE f ws text stack) (sym words) (runs_as weights.Weights.LARGE enough f (slots_alone f.vars) (λ r. false) (alone f few) (omega arith) whole fit exact text stack emits)
 
 -- the tables' text has at most three bytes more for each table
 pub text_few : (tables : List (List ℕ)) → length (text_of tables) ≤ sum (map length tables) + 3 * length tables

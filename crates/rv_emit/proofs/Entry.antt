@@ -10,7 +10,7 @@ use Rattle.rv_emit.proofs.Runs.{HasAll, Reaches, ends_at}
 use Rattle.rv_emit.proofs.Places.{save_on}
 use Rattle.rv_emit.proofs.Branches.{at_place}
 
-module _ (l : Site) (m : State) (sound : Sound l m) (words : (r : ℕ) → register m.regs r < 2 ^ 32) where
+module _ (l : Site) (m : State) (sound : Sound l m) (words : (r : ℕ) → 10 ≤ r → r < 18 → register m.regs r < 2 ^ 32) where
   argument_free : (r : ℕ) → 10 ≤ r → r < 18 → IsFree l r
   argument_free r low high = record { not_sp = λ e. omega arith; not_temporary = λ h. omega arith; not_held = by_held (l.held r) refl }
     where
@@ -34,7 +34,7 @@ module _ (l : Site) (m : State) (sound : Sound l m) (words : (r : ℕ) → regis
       let time : t + 1 + n ≡ t + suc n = omega arith in
       let one : suc j ≡ j + 1 = omega arith in
       let holds = before.kept (10 + j) (argument_free (10 + j) (omega arith) (omega arith)) in
-      save_on l m sound t (k + suc n) mem (arguments m.regs j) k s (10 + j) j (register m.regs (10 + j)) (Ok (moved_in fuel (t + suc n) mem (j + suc n))) (omega arith) before has.0 (omega arith) (words (10 + j)) holds (λ u stands.
+      save_on l m sound t (k + suc n) mem (arguments m.regs j) k s (10 + j) j (register m.regs (10 + j)) (Ok (moved_in fuel (t + suc n) mem (j + suc n))) (omega arith) before has.0 (omega arith) (words (10 + j) (omega arith) (omega arith)) holds (λ u stands.
       let rest = arguments_reach n (j + 1) (t + 1) (k + 1) fuel mem u (omega arith) (omega arith) (subst (λ i. Before l m mem (arguments m.regs i) (k + 1) u) one stands) has.1 in
       at_place l m sound (t + 1) (k + 1 + n) (k + suc n) u (Ok (moved_in fuel (t + suc n) mem (j + suc n))) place
       (subst (λ i. Reaches l m sound (t + 1) (k + 1 + n) u (Ok (moved_in fuel (t + suc n) mem i))) next

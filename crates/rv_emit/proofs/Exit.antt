@@ -69,7 +69,7 @@ module _ (l : Site) (m : State) (sound : Sound l m) (mem : Bytes) (vars : Vars) 
       let valid : j < l.slots = subst (λ p. IsValid l p) is (sound.valid x below) in
       let same : d % 32 ≡ d = omega arith in
       let sp : register s.regs 2 ≡ l.base = late.others 2 (λ q. omega arith) (λ q. omega arith) ∙ ended.sp in
-      let address : plus (register s.regs 2) (extended 2048 (4 * j % 4096)) ≡ l.base + 4 * j = rw sp (slot_offset l.base j (omega (arith, sound.few)) (omega (arith, sound.frame_ends))) in
+      let address : plus (register s.regs 2) (extended 2048 (4 * j % 4096)) ≡ l.base + 4 * j = rw sp (slot_offset l.base j (omega (arith, sound.few, sound.fit)) (omega (arith, sound.frame_ends, sound.fit))) in
       let there : number_at s.mem 4 (l.base + 4 * j) ≡ Some v = ap (λ b. number_at b 4 (l.base + 4 * j)) late.mem ∙ found in
       record {
         value = v;
@@ -80,7 +80,7 @@ module _ (l : Site) (m : State) (sound : Sound l m) (mem : Bytes) (vars : Vars) 
   given_at : (k : ℕ) (s : State) (d x : ℕ) (p : At) → d < 32 → Late l m e k s → x < l.vars → l.place x ≡ p → Given s d x p
   given_at k s d x (Slot j) small late below is =
       let valid : j < l.slots = subst (λ p. IsValid l p) is (sound.valid x below) in
-      let mapped : IsSome (number_at e.mem 4 (l.base + 4 * j)) = is_some-number_at 4 e.mem (l.base + 4 * j) (λ q low high. ended.memory.stay q (sound.mapped q (omega arith, omega arith))) in
+      let mapped : IsSome (number_at e.mem 4 (l.base + 4 * j)) = is_some-number_at 4 e.mem (l.base + 4 * j) (λ q low high. ended.memory.stay q (sound.mapped q (omega arith, omega (arith, sound.fit)))) in
       given_slot k s d x j (number_at e.mem 4 (l.base + 4 * j)) small late below is refl mapped
   given_at k s d x (Register r) small late below is =
       let valid : l.held r ≡ true = subst (λ p. IsValid l p) is (sound.valid x below) in

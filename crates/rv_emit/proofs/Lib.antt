@@ -14,6 +14,8 @@ pub mod Blocks
 pub mod Standing
 pub mod Entry
 pub mod Exit
+pub mod Saving
+pub mod Restoring
 pub mod Leave
 pub mod TableText
 pub mod WordSmall

@@ -25,7 +25,7 @@ module _ (l : Site) (m : State) (sound : Sound l m) where
   fetch_does mem vars k s d x v (Slot j) small before below is word there =
       let valid : j < l.slots = subst (λ p. IsValid l p) is (sound.valid x below) in
       let same : d % 32 ≡ d = omega arith in
-      let address : plus (register s.regs 2) (extended 2048 (4 * j % 4096)) ≡ l.base + 4 * j = rw before.sp (slot_offset l.base j (omega (arith, sound.few)) (omega (arith, sound.frame_ends))) in
+      let address : plus (register s.regs 2) (extended 2048 (4 * j % 4096)) ≡ l.base + 4 * j = rw before.sp (slot_offset l.base j (omega (arith, sound.few, sound.fit)) (omega (arith, sound.frame_ends, sound.fit))) in
       rw same (loads_is s d 4 _ (l.base + 4 * j) v address (omega (arith, sound.base_aligned)) there)
   fetch_does mem vars k s d x v (Register r) small before below is word there =
       let valid : l.held r ≡ true = subst (λ p. IsValid l p) is (sound.valid x below) in
@@ -43,12 +43,12 @@ module _ (l : Site) (m : State) (sound : Sound l m) where
   saved_memory : (mem real : Bytes) (j v : ℕ) → j < l.slots → Memory l m mem real → Memory l m mem (with_number real 4 (l.base + 4 * j) v)
   saved_memory mem real j v slot memory =
       record {
-        seen = λ a b found. get-with_number_other 4 real (l.base + 4 * j) v a (λ low high. memory.off_frame a (ap (λ o. is_some o) found) (omega arith, omega arith)) ∙ memory.seen a b found;
+        seen = λ a b found. get-with_number_other 4 real (l.base + 4 * j) v a (λ low high. memory.off_frame a (ap (λ o. is_some o) found) (omega arith, omega (arith, sound.fit))) ∙ memory.seen a b found;
         off_image = memory.off_image;
         off_frame = memory.off_frame;
         others = λ a outside none. get-with_number_other 4 real (l.base + 4 * j) v a (λ low high. outside (omega arith, omega arith)) ∙ memory.others a outside none;
         stay = λ a there. mapped-with_number 4 real (l.base + 4 * j) v a (memory.stay a there);
-        no_more = λ a there. memory.no_more a (mapped_before_with_number 4 real (l.base + 4 * j) v a (λ q low high. memory.stay q (sound.mapped q (omega arith, omega arith))) there);
+        no_more = λ a there. memory.no_more a (mapped_before_with_number 4 real (l.base + 4 * j) v a (λ q low high. memory.stay q (sound.mapped q (omega arith, omega (arith, sound.fit)))) there);
         bytes = bytes-with_number 4 real (l.base + 4 * j) v memory.bytes;
       }
 
@@ -78,17 +78,17 @@ module _ (l : Site) (m : State) (sound : Sound l m) where
       register-with_register_other s.regs r v q apart ∙ there
 
   -- the instruction saves, and the machine stands behind it
-  record Saves (mem : Bytes) (vars : Vars) (k : ℕ) (s : State) (d x v : ℕ) (p : At) : Type 0 where
-    after : State
-    does : effect (save d p) s ≡ Ok after
-    stands : Before l m mem (insert vars x v) (k + 1) after
+  pub record Saves (mem : Bytes) (vars : Vars) (k : ℕ) (s : State) (d x v : ℕ) (p : At) : Type 0 where
+    pub after : State
+    pub does : effect (save d p) s ≡ Ok after
+    pub stands : Before l m mem (insert vars x v) (k + 1) after
 
   save_slot : (mem : Bytes) (vars : Vars) (k : ℕ) (s : State) (d x v j : ℕ) → d < 32 → Before l m mem vars k s → Has l.code k (save d (Slot j)) → x < l.vars → l.place x ≡ Slot j → v < 2 ^ 32 → register s.regs d ≡ v → Saves mem vars k s d x v (Slot j)
   save_slot mem vars k s d x v j small before has below is word holds =
       let valid : j < l.slots = subst (λ p. IsValid l p) is (sound.valid x below) in
       let same : d % 32 ≡ d = omega arith in
-      let address : plus (register s.regs 2) (extended 2048 (4 * j % 4096)) ≡ l.base + 4 * j = rw before.sp (slot_offset l.base j (omega (arith, sound.few)) (omega (arith, sound.frame_ends))) in
-      let mapped : IsSome (number_at s.mem 4 (l.base + 4 * j)) = is_some-number_at 4 s.mem (l.base + 4 * j) (λ q low high. before.memory.stay q (sound.mapped q (omega arith, omega arith))) in
+      let address : plus (register s.regs 2) (extended 2048 (4 * j % 4096)) ≡ l.base + 4 * j = rw before.sp (slot_offset l.base j (omega (arith, sound.few, sound.fit)) (omega (arith, sound.frame_ends, sound.fit))) in
+      let mapped : IsSome (number_at s.mem 4 (l.base + 4 * j)) = is_some-number_at 4 s.mem (l.base + 4 * j) (λ q low high. before.memory.stay q (sound.mapped q (omega arith, omega (arith, sound.fit)))) in
       let value : register s.regs (d % 32) ≡ v = rw same holds in
       let four : v < 256 ^ 4 = omega arith in
       let stored : Holds l (with_stored s 4 (l.base + 4 * j) v) (l.place x) v = subst (λ p. Holds l (with_stored s 4 (l.base + 4 * j) v) p v) (sym is) (number_at-with_number 4 s.mem (l.base + 4 * j) v four) in
@@ -129,7 +129,7 @@ module _ (l : Site) (m : State) (sound : Sound l m) where
       held_is_not_free : (q : ℕ) → IsFree l q → q ≡ r → l.held r ≡ true → ⊥
       held_is_not_free q free e valid = let held : l.held q ≡ true = ap l.held e ∙ valid in let not : l.held q ≡ false = free.not_held in absurd (cc)
 
-  saves : (mem : Bytes) (vars : Vars) (k : ℕ) (s : State) (d x v : ℕ) (p : At) → d < 32 → Before l m mem vars k s → Has l.code k (save d p) → x < l.vars → l.place x ≡ p → v < 2 ^ 32 → register s.regs d ≡ v → Saves mem vars k s d x v p
+  pub saves : (mem : Bytes) (vars : Vars) (k : ℕ) (s : State) (d x v : ℕ) (p : At) → d < 32 → Before l m mem vars k s → Has l.code k (save d p) → x < l.vars → l.place x ≡ p → v < 2 ^ 32 → register s.regs d ≡ v → Saves mem vars k s d x v p
   saves mem vars k s d x v (Slot j) small before has below is word holds = save_slot mem vars k s d x v j small before has below is word holds
   saves mem vars k s d x v (Register r) small before has below is word holds = save_register mem vars k s d x v r small before has below is word holds
 

@@ -62,7 +62,7 @@ module _ (l : Site) (m : State) (sound : Sound l m) where
   same_in_image mem real a memory inside = by_byte (get mem a) refl
     where
       by_byte : (o : Option ℕ) → get mem a ≡ o → get real a ≡ get m.mem a
-      by_byte None is = memory.others a (λ in_frame. sound.apart a inside in_frame) is
+      by_byte None is = memory.others a (λ slot. sound.apart a inside (slot.0, omega (arith, slot.1, sound.fit))) is
       by_byte (Some b) is = absurd (memory.off_image a (cc) inside)
 
   -- the code still stands

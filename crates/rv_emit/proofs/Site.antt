@@ -8,8 +8,9 @@ use Rattle.rv_code.specs.declared.instruction.Instr.{Instr}
 use Rattle.rv_code.specs.Word.{word_of}
 use Rattle.rv_machine.specs.State.{Bytes, State, register, number_at}
 
--- the code begins at `start`, and the text of its tables lies behind it; the frame's words begin at `base`; each of the
--- variables below `vars` has its place, each table its distance from the start; `held` are the registers that are places
+-- the code begins at `start`, and the text of its tables lies behind it; the frame's `words` begin at `base`, and the
+-- first `slots` of them hold variables; each of the variables below `vars` has its place, each table its distance from
+-- the start; `held` are the registers that are places
 pub record Site : Type 0 where
   pub start : ℕ
   pub code : List Instr
@@ -17,6 +18,7 @@ pub record Site : Type 0 where
   pub tables : List (List ℕ)
   pub base : ℕ
   pub slots : ℕ
+  pub words : ℕ
   pub vars : ℕ
   pub place : ℕ → At
   pub far : ℕ → ℕ
@@ -29,7 +31,10 @@ abbrev pub InCode : Site → ℕ → Type 0
 InCode l pc = (l.start ≤ pc) × (pc < l.start + 4 * length l.code)
 
 abbrev pub InFrame : Site → ℕ → Type 0
-InFrame l a = (l.base ≤ a) × (a < l.base + 4 * l.slots)
+InFrame l a = (l.base ≤ a) × (a < l.base + 4 * l.words)
+
+abbrev pub InSlots : Site → ℕ → Type 0
+InSlots l a = (l.base ≤ a) × (a < l.base + 4 * l.slots)
 
 abbrev pub IsValid : Site → At → Type 0
 IsValid l (Slot j) = j < l.slots
@@ -48,8 +53,9 @@ pub record Sound (l : Site) (m : State) : Type 0 where
   pub ends : l.start + 4 * length l.code + length l.text ≤ 2 ^ 32
   pub short : length l.code < 260000
   pub base_aligned : l.base % 4 ≡ 0
-  pub frame_ends : l.base + 4 * l.slots ≤ 2 ^ 32
-  pub few : l.slots ≤ 512
+  pub frame_ends : l.base + 4 * l.words ≤ 2 ^ 32
+  pub few : l.words ≤ 512
+  pub fit : l.slots ≤ l.words
   pub apart : (a : ℕ) → InImage l a → InFrame l a → ⊥
   pub stands : (k : ℕ) (i : Instr) → slice_get l.code k ≡ Some i → number_at m.mem 4 (l.start + 4 * k) ≡ Some (word_of i)
   pub table : (k : ℕ) (bytes : List ℕ) → slice_get l.tables k ≡ Some bytes → TableAt l m (l.far k) bytes
@@ -65,7 +71,7 @@ pub record Memory (l : Site) (m : State) (flat real : Bytes) : Type 0 where
   pub seen : (a b : ℕ) → get flat a ≡ Some b → get real a ≡ Some b
   pub off_image : (a : ℕ) → IsSome (get flat a) → InImage l a → ⊥
   pub off_frame : (a : ℕ) → IsSome (get flat a) → InFrame l a → ⊥
-  pub others : (a : ℕ) → (InFrame l a → ⊥) → get flat a ≡ None → get real a ≡ get m.mem a
+  pub others : (a : ℕ) → (InSlots l a → ⊥) → get flat a ≡ None → get real a ≡ get m.mem a
   pub stay : (a : ℕ) → IsSome (get m.mem a) → IsSome (get real a)
   pub no_more : (a : ℕ) → IsSome (get real a) → IsSome (get m.mem a)
   pub bytes : (a b : ℕ) → get real a ≡ Some b → b < 256

@@ -1,7 +1,7 @@
 // Emitted code on the machine. Each expected number is worked out from the manual.
-ghost use Rattle.std.specs.Prelude.{◌≡◌, ◌≤◌, ◌^◌, IfOk, length};
-ghost use Rattle.flat_lang.specs.Count.{code_weight};
-ghost use Rattle.flat_lang.specs.Whole.{IsWhole};
+ghost use Rattle.std.specs.Prelude.{◌≡◌, ◌+◌, ◌*◌, ◌≤◌, IfOk, true};
+ghost use Rattle.flat_lang.specs.Count.{stmt_weight, code_weight, stmt_size, code_size};
+ghost use Rattle.flat_lang.specs.Whole.{is_whole, all_whole, IsWhole};
 
 use crate::*;
 use bed_syntax::{BOp, Size, Weights};
@@ -199,6 +199,74 @@ fn a_table_far_from_the_code(rt: HostRuntime) -> Result<(), Fail> {
     for (size, offset, expected, text) in rows {
         let f = look_up(rt.alloc(), size)?;
         assert_eq!(&rt; run(&rt, rt.alloc(), &f, &[offset])?, expected, "{text}");
+    }
+    Ok(())
+}
+
+// A statement that takes variable 2 from variable 3, and then many that add it to variable 1.
+fn adds(alloc: Global, count: u32) -> Result<List<FStmt>, NoMemory>
+    requires { count ≤ 1000 }
+    ensures whole { IfOk result (λ cs. all_whole 4 0 cs ≡ true) }
+    ensures light { IfOk result (λ cs. code_weight Weights.LARGE cs ≤ 5 + 5 * count) }
+    ensures small { IfOk result (λ cs. code_size cs ≤ 1 + count) }
+{
+    let mut cs = List::new(alloc);
+    cs.push(FStmt::Bin(BOp::Sub, 3, 3, 2))?;
+    for turn in 0..count {
+        cs.push(FStmt::Bin(BOp::Add, 1, 1, 2))?;
+    }
+    Ok(cs)
+}
+
+fn long_sides(alloc: Global) -> Result<FStmt, NoMemory>
+    ensures whole { IfOk result (λ c. is_whole 4 0 c ≡ true) }
+    ensures light { IfOk result (λ c. stmt_weight Weights.LARGE c ≤ 4000) }
+    ensures small { IfOk result (λ c. stmt_size c ≤ 1000) }
+{
+    let first = adds(alloc, 300)?;
+    let second = adds(alloc, 301)?;
+    Ok(FStmt::If(0, first, second))
+}
+
+fn long_turns(alloc: Global) -> Result<FStmt, NoMemory>
+    ensures whole { IfOk result (λ c. is_whole 4 0 c ≡ true) }
+    ensures light { IfOk result (λ c. stmt_weight Weights.LARGE c ≤ 4000) }
+    ensures small { IfOk result (λ c. stmt_size c ≤ 1000) }
+{
+    let body = adds(alloc, 300)?;
+    Ok(FStmt::While(List::new(alloc), 3, body))
+}
+
+fn long_code(alloc: Global) -> Result<Flat, NoMemory>
+    ensures whole { IfOk result (λ f. IsWhole f) }
+    ensures few { IfOk result (λ f. f.vars ≡ 4) }
+    ensures light { IfOk result (λ f. code_weight Weights.LARGE f.body ≤ 8000) }
+{
+    let mut body = List::new(alloc);
+    body.push(long_sides(alloc)?)?;
+    body.push(long_turns(alloc)?)?;
+    let mut rets = List::new(alloc);
+    rets.push(1)?;
+    Ok(Flat {
+        body,
+        vars: 4,
+        args: 4,
+        rets,
+        tables: List::new(alloc),
+    })
+}
+
+// One side, and then two turns.
+#[test]
+fn sides_and_turns_of_over_4_kib(rt: HostRuntime) -> Result<(), Fail> {
+    let rows = [(7, 900, "not zero"), (0, 901, "zero")];
+    for (x, expected, text) in rows {
+        let f = long_code(rt.alloc())?;
+        assert_eq!(&rt;
+            run(&rt, rt.alloc(), &f, &[x, 0, 1, 3])?,
+            expected,
+            "{text}"
+        );
     }
     Ok(())
 }

@@ -1,0 +1,89 @@
+-- The reader's definition and the relation between texts and models.
+use Rattle.std.proofs.Common.{◌≡◌, subst, refl, sym, ◌∙◌, ap, ℕ, ◌≤◌, nat_le, Bool, true, false, List, length, arith, Option, Some, None, Ok, IfOk, Result, Err, if◌then◌else◌}
+use Rattle.std.proofs.lemmas.Bool.Decides.{nat_tests}
+use Rattle.rup_base.specs.Answers.{Answers, and_then}
+use Rattle.rup_base.specs.declared.fail.Fail.{Fail}
+use Rattle.rup_base.specs.declared.refusal.Refusal.TheVariants.{OverLimit}
+use Rattle.rup_base.specs.declared.refusal.Limit.{Limit}
+use Rattle.rup_base.specs.declared.refusal.TextWhy.{TextWhy}
+use Rattle.sx_text.specs.declared.tree.Sx.{Sx}
+use Rattle.sx_text.specs.Forms.{read, judged, fault, rest_of}
+use Rattle.model_syntax.specs.declared.program.Model.{Model}
+use Rattle.model_syntax.specs.Limits.{Within, over_limit, statements, depth, blocks, tables}
+use Rattle.model_reader.specs.Parts.{Answer}
+use Rattle.model_reader.specs.Reading.{Reads, read_model, model_of_forms, limited}
+use Rattle.model_reader.proofs.Round.{within_limits}
+
+abbrev answer_of : Model → Answer Model
+answer_of m = Ok m
+
+-- an answer that goes on to a value is a value that goes on to it
+first_part : {A B : Type 0} (a : Answer A) (next : A → Answer B) (b : B) → and_then a next ≡ Ok b → (x : A) × (a ≡ Ok x) × (next x ≡ Ok b)
+first_part (Ok x) next b h = (x, refl, h)
+first_part (Err r) next b h = absurd cc
+
+-- the forms of a text do not depend on the word that names its file
+any_word : (v w : ℕ) (f : Option (ℕ × TextWhy)) (found forms : List Sx) → judged v f found ≡ Ok forms → judged w f found ≡ Ok forms
+any_word v w None found forms h = h
+any_word v w (Some fault) found forms h = absurd cc
+
+same_forms : (v w : ℕ) (bytes : List ℕ) (forms : List Sx) → read v bytes ≡ Ok forms → read w bytes ≡ Ok forms
+same_forms v w bytes forms h = any_word v w (fault 0 0 0 bytes) (rest_of 0 0 bytes).0 forms h
+
+by_limit : (m n : Model) (o : Option (Limit × ℕ)) → over_limit m ≡ o → limited m ≡ Ok n → (m ≡ n) × (over_limit m ≡ None)
+by_limit m n None is h = let e : limited m ≡ Ok m = rw (is, limited) refl in (cc, is)
+by_limit m n (Some (which, count)) is h = let e : limited m ≡ Err (OverLimit which count) = rw (is, limited) refl in absurd cc
+
+limited_same : (m n : Model) → limited m ≡ Ok n → (m ≡ n) × (over_limit m ≡ None)
+limited_same m n h = by_limit m n (over_limit m) refl h
+
+under : (n most : ℕ) → nat_le n most ≡ true → n ≤ most
+under n most h = grind (arith, nat_tests)
+
+none_of : (a b c d : Bool) (w x y z : Limit × ℕ)
+    → (if a then (if b then (if c then (if d then None else Some z) else Some y) else Some x) else Some w) ≡ None
+    → (a ≡ true) × (b ≡ true) × (c ≡ true) × (d ≡ true)
+none_of true true true true w x y z h = (refl, refl, refl, refl)
+none_of true true true false w x y z h = absurd cc
+none_of true true false d w x y z h = absurd cc
+none_of true false c d w x y z h = absurd cc
+none_of false b c d w x y z h = absurd cc
+
+none_within : (m : Model) → over_limit m ≡ None → Within m
+none_within m h =
+    let p = none_of (nat_le (statements m) 2000) (nat_le (depth m) 64) (nat_le (blocks m) 16) (nat_le (tables m) 65536) _ _ _ _ h in
+    record {
+      few_statements = under (statements m) 2000 p.0;
+      shallow_expressions = under (depth m) 64 p.1;
+      shallow_blocks = under (blocks m) 16 p.2;
+      small_tables = under (tables m) 65536 p.3;
+    }
+
+-- a model that is read: the forms of its bytes, and their one model, which is within the limits
+read_parts : (word : ℕ) (bytes : List ℕ) (m : Model) → read_model word bytes ≡ Ok m → Reads bytes m × Within m
+read_parts word bytes m h =
+    let (forms, r, rest) = first_part (read word bytes) (λ forms. and_then (model_of_forms (length bytes) forms) limited) m h in
+    let (n, s, l) = first_part (model_of_forms (length bytes) forms) limited m rest in
+    let (same, none) = limited_same n m l in (
+      (forms, same_forms word 0 bytes forms r, s ∙ ap answer_of same),
+      none_within m (sym (ap over_limit same) ∙ none),
+    )
+
+composed : (word : ℕ) (bytes : List ℕ) (m : Model) (forms : List Sx) → read word bytes ≡ Ok forms
+    → model_of_forms (length bytes) forms ≡ Ok m → limited m ≡ Ok m → read_model word bytes ≡ Ok m
+composed word bytes m forms r s l = rw (r, s) l
+
+is_read : (word : ℕ) (bytes : List ℕ) (m : Model) → Reads bytes m → Within m → read_model word bytes ≡ Ok m
+is_read word bytes m (forms, r, s) w = composed word bytes m forms (same_forms 0 word bytes forms r) s (within_limits m w)
+
+-- what a call answers that answers as the definition does
+pub answered_only : (word : ℕ) (bytes : List ℕ) (r : Result Model Fail) → Answers r (read_model word bytes)
+    → IfOk r (λ m. Reads bytes m × Within m)
+answered_only word bytes (Ok m) h = read_parts word bytes m h
+answered_only word bytes (Err e) h = tt
+
+pub answered_all : (word : ℕ) (bytes : List ℕ) (r : Result Model Fail) (m : Model) → Reads bytes m → Within m
+    → Answers r (read_model word bytes) → Answers r (Ok m)
+answered_all word bytes r m reads within h =
+    let P : Answer Model → Type 0 = λ a. Answers r a in
+    subst P (is_read word bytes m reads within) h

@@ -1,0 +1,12 @@
+pub mod Atomic
+pub mod Backs
+pub mod Decimal
+pub mod Exact
+pub mod ExprBack
+pub mod FactBack
+pub mod ModelBack
+pub mod Nth
+pub mod Numerals
+pub mod Round
+pub mod Spelled
+pub mod StmtBack

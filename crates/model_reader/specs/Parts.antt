@@ -1,0 +1,136 @@
+-- What a form is read as, and the parts of a list. Each rule of the grammar is a list of parts in the order
+-- of the text, so the first part that is refused is the first form that is not of its kind.
+use Rattle.std.specs.Prelude.{ℕ, zero, suc, ◌-◌, List, [], ◌∷◌, Result, Ok, Err, Option, Some, None, if◌then◌else◌}
+use Rattle.rup_base.specs.Answers.{and_then}
+use Rattle.rup_base.specs.Name.{is_name}
+use Rattle.rup_base.specs.declared.arg.Place.{Place}
+use Rattle.rup_base.specs.declared.refusal.Refusal.{Refusal}
+use Rattle.rup_base.specs.declared.refusal.Refusal.TheVariants.{NotModel}
+use Rattle.model_syntax.specs.Names.{same}
+use Rattle.model_syntax.specs.declared.expr.Scalar.{Scalar}
+use Rattle.model_syntax.specs.declared.expr.Expr.{Expr}
+use Rattle.model_syntax.specs.declared.stmt.Lin.{Lin}
+use Rattle.model_syntax.specs.declared.stmt.Le.{Le}
+use Rattle.model_syntax.specs.declared.stmt.Stmt.{Stmt}
+use Rattle.model_syntax.specs.declared.program.Param.{Param}
+use Rattle.model_syntax.specs.declared.program.Ret.{Ret}
+use Rattle.model_syntax.specs.declared.program.Model.{Model}
+use Rattle.model_reader.specs.Numbers as numbers
+
+abbrev pub Name : Type 0
+Name = List ℕ
+
+abbrev pub Answer : Type 0 → Type 0
+Answer A = Result A Refusal
+
+-- a form as each kind of the grammar
+pub record Reading : Type 0 where
+  -- where it stands
+  pub at : Place
+  -- the bytes of an atom, none of a list
+  pub text : List ℕ
+  -- e
+  pub expr : Answer Expr
+  -- (N+), of a type
+  pub entries : Scalar → Answer (List ℕ)
+  -- L
+  pub side : Answer Lin
+  -- C
+  pub fact : Answer Le
+  -- (keep C*)
+  pub keep : Answer (List Le)
+  -- (NAME*)
+  pub names : Answer (List Name)
+  -- (NAME)
+  pub element : Answer Name
+  -- S
+  pub stmt : Answer Stmt
+  -- (do S*)
+  pub block : Answer (List Stmt)
+  -- a parameter's type, of a name
+  pub sort : Name → Answer Param
+  -- P
+  pub param : Answer Param
+  -- (params P*)
+  pub params : Answer (List Param)
+  -- (require C*)
+  pub requires_ : Answer (List Le)
+  -- R
+  pub ret : Answer Ret
+  -- (ret R*)
+  pub rets : Answer (List Ret)
+  -- MODEL
+  pub model : Answer Model
+
+abbrev pub Kind : Type 0 → Type 0
+Kind A = Reading → Answer A
+
+-- the forms of a list that stands at a place; its first one has number 0
+abbrev pub Rule : Type 0 → Type 0
+Rule A = Place → List Reading → Answer A
+
+infixl 10 ◌>>=◌
+abbrev pub ◌>>=◌ : {A B : Type 0} → Answer A → (A → Answer B) → Answer B
+answer >>= next = and_then answer next
+
+-- the form at a place is not of the kind that is expected there
+abbrev pub wrong : {A : Type 0} → Place → Answer A
+wrong p = Err (NotModel p.start)
+
+-- a form is missing in the list at a place: at its closing parenthesis
+abbrev pub missing : {A : Type 0} → Place → Answer A
+missing p = Err (NotModel (p.end - 1))
+
+-- the form with a number, as a kind
+abbrev pub nth : {A : Type 0} → ℕ → Kind A → Rule A
+nth i kind p [] = missing p
+nth zero kind p (f ∷ fs) = kind f
+nth (suc i) kind p (f ∷ fs) = nth i kind p fs
+
+-- no form with this number
+abbrev pub end : ℕ → List Reading → Answer (Unit {0})
+end i [] = Ok tt
+end zero (f ∷ fs) = wrong f.at
+end (suc i) (f ∷ fs) = end i fs
+
+-- each form, as one kind
+abbrev pub each : {A : Type 0} → Kind A → List Reading → Answer (List A)
+each kind [] = Ok []
+each kind (f ∷ fs) = do
+  a ← kind f
+  more ← each kind fs
+  Ok (a ∷ more)
+
+-- a word, and then each form as one kind
+abbrev pub headed : {A : Type 0} → List ℕ → Kind A → Rule (List A)
+headed word kind p [] = wrong p
+headed word kind p (head ∷ fs) = if same head.text word then each kind fs else wrong p
+
+-- one form of a kind, and no more
+abbrev pub alone : {A : Type 0} → Kind A → Rule A
+alone kind p fs = do
+  a ← nth 0 kind p fs
+  _ ← end 1 fs
+  Ok a
+
+-- at least one form, each of one kind
+abbrev pub some : {A : Type 0} → Kind A → Rule (List A)
+some kind p [] = missing p
+some kind p (f ∷ fs) = each kind (f ∷ fs)
+
+-- NAME
+abbrev pub name : Kind Name
+name f = if is_name f.text then Ok f.text else wrong f.at
+
+-- what is there, else the form is wrong
+abbrev pub known : {A : Type 0} → Place → Option A → Answer A
+known p None = wrong p
+known p (Some a) = Ok a
+
+-- number
+abbrev pub number : Kind ℕ
+number f = known f.at (numbers.number f.text)
+
+-- a word of the grammar
+abbrev pub word : List ℕ → Kind (Unit {0})
+word w f = if same f.text w then Ok tt else wrong f.at

@@ -52,6 +52,19 @@ impl Form {
         }
     }
 
+    /// The form `top - s`.
+    pub(crate) fn below(top: u32, s: u32) -> Form
+        ensures { result ≡ linear.below top s }
+    {
+        let mut slots = [(0, 0); 16];
+        slots[0] = (s, -1);
+        Form {
+            constant: i64::from(top),
+            count: 1,
+            slots,
+        }
+    }
+
     /// The number that is added to the terms.
     pub fn constant_part(&self) -> i64
         ensures { result ≡ self.now.constant }
@@ -124,7 +137,18 @@ impl Form {
         }
     }
 
-    fn all_terms(&self) -> &[(u32, i64)]
+    /// The form again.
+    pub fn copy(&self) -> Form
+        ensures { result ≡ self.now }
+    {
+        Form {
+            constant: self.constant,
+            count: self.count,
+            slots: self.slots,
+        }
+    }
+
+    pub(crate) fn all_terms(&self) -> &[(u32, i64)]
         ensures terms { result.now ≡ self.now.terms }
         ensures count { length result.now ≤ 16 }
         ensures limits { linear.is_within self.now ≡ true }

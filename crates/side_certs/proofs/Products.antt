@@ -1,7 +1,6 @@
 -- Products of whole numbers: sums, signs and bounds.
-use Rattle.std.proofs.Common.{◌≡◌, ℕ, suc, ◌+◌, ◌-◌, ◌*◌, ◌^◌, ◌≤◌, ℤ, pos, negsuc, ◌+ℤ◌, ◌*ℤ◌, neg_ℤ, ◌≤ℤ◌, ap, arith, mul-le-mul}
+use Rattle.std.proofs.Common.{◌≡◌, ℕ, suc, ◌+◌, ◌-◌, ◌*◌, ◌≤◌, ℤ, pos, negsuc, ◌+ℤ◌, ◌*ℤ◌, neg_ℤ, ◌≤ℤ◌, ap, arith, mul-le-mul}
 use Rattle.std.proofs.lemmas.Int.{ints}
-use Rattle.side_certs.specs.Closes.{Near}
 use borrow.Author.Differences.{up, down, sum_is_lem, product_is}
 
 pub sum_times : (a b c : ℤ) → (a +ℤ b) *ℤ c ≡ (a *ℤ c) +ℤ (b *ℤ c)
@@ -38,14 +37,3 @@ not_below d (negsuc n) some enough =
 pub product_not_below : (m : ℕ) (z : ℤ) → pos 0 ≤ℤ z → pos 0 ≤ℤ (pos m *ℤ z)
 product_not_below m (pos n) some = omega (arith, ints)
 product_not_below m (negsuc n) some = absurd (omega (arith, ints, some))
-
--- a product of a multiplier and a coefficient has room
-pub near_product : (m : ℕ) (z : ℤ) → m ≤ 2 ^ 32 → Near (2 ^ 67) z → Near (2 ^ 99) (pos m *ℤ z)
-near_product m (pos n) small near =
-    let below : n ≤ 2 ^ 67 = omega (arith, ints, near.1) in
-    let most : m * n ≤ 2 ^ 32 * 2 ^ 67 = mul-le-mul small below in
-    (omega (arith, ints, most), omega (arith, ints, most))
-near_product m (negsuc n) small near =
-    let below : suc n ≤ 2 ^ 67 = omega (arith, ints, near.0) in
-    let most : m * suc n ≤ 2 ^ 32 * 2 ^ 67 = mul-le-mul small below in
-    (omega (arith, ints, most), omega (arith, ints, most))

@@ -157,7 +157,7 @@ fn left(facts: &[Form], tops: &[u32], goal: &Form, cert: &Cert, place: Option<u3
 fn summed(facts: &[Form], tops: &[u32], entries: &[Entry], place: Option<u32>) -> i128
     requires { length entries.now ≤ 32 }
     ensures sum { result ≡ certificate.summed (certificate.number_at place) facts.now tops.now entries.now }
-    ensures near { certificate.Near (2 ^ 104) result }
+    ensures near { certificate.Near (2 ^ 100) result }
 {
     let mut sum = 0;
     let mut left = entries;
@@ -171,7 +171,7 @@ fn summed(facts: &[Form], tops: &[u32], entries: &[Entry], place: Option<u32>) -
 /// The number of the entry's form, times its multiplier.
 fn multiple(facts: &[Form], tops: &[u32], entry: Entry, place: Option<u32>) -> i128
     ensures multiple { result ≡ certificate.multiple (certificate.number_at place) entry.mult (certificate.named facts.now tops.now entry) }
-    ensures near { certificate.Near (2 ^ 99) result }
+    ensures near { certificate.Near (2 ^ 95) result }
 {
     if entry.mult > GREATEST_MULTIPLIER {
         return 0;
@@ -185,9 +185,9 @@ fn multiple(facts: &[Form], tops: &[u32], entry: Entry, place: Option<u32>) -> i
 /// The product, which has room in 128 bits.
 fn times(multiplier: u64, number: i128) -> i128
     requires multiplier { multiplier ≤ 2 ^ 32 }
-    requires near { certificate.Near (2 ^ 67) number }
+    requires near { certificate.Near (2 ^ 63) number }
     ensures product { result ≡ pos multiplier *ℤ number }
-    ensures near { certificate.Near (2 ^ 99) result }
+    ensures near { certificate.Near (2 ^ 95) result }
 {
     i128::from(multiplier) * number
 }
@@ -195,32 +195,10 @@ fn times(multiplier: u64, number: i128) -> i128
 /// The constant, or the coefficient of a symbol.
 fn number_at(form: &Form, place: Option<u32>) -> i128
     ensures number { result ≡ certificate.number_at place form.now }
-    ensures near { certificate.Near (2 ^ 67) result }
+    ensures near { certificate.Near (2 ^ 63) result }
 {
     match place {
         None => i128::from(form.constant_part()),
-        Some(s) => coefficient(form.all_terms(), s),
+        Some(s) => i128::from(form.coefficient(s)),
     }
-}
-
-fn coefficient(terms: &[(u32, i64)], s: u32) -> i128
-    requires { length terms.now ≤ 16 }
-    ensures coefficient { result ≡ linear.coefficient s terms.now }
-    ensures near { certificate.Near (2 ^ 67) result }
-{
-    let mut sum = 0;
-    let mut left = terms;
-    'terms: while let [term, rest @ ..] = left {
-        sum += share(s, *term);
-        left = rest;
-    }
-    sum
-}
-
-/// What the term adds to the coefficient of a symbol.
-fn share(s: u32, term: (u32, i64)) -> i128
-    ensures share { result ≡ linear.share s term }
-    ensures near { certificate.Near (2 ^ 63) result }
-{
-    if term.0 == s { i128::from(term.1) } else { 0 }
 }

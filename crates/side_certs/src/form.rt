@@ -89,6 +89,20 @@ impl Form {
         self.slots[k as usize]
     }
 
+    /// The coefficient of the symbol `s`, 0 where no term has it.
+    pub fn coefficient(&self, s: u32) -> i64
+        ensures { result ≡ linear.coefficient s self.now.terms }
+    {
+        let mut left = self.all_terms();
+        'terms: while let [term, rest @ ..] = left {
+            if term.0 == s {
+                return term.1;
+            }
+            left = rest;
+        }
+        0
+    }
+
     /// The sum of both forms. None exactly where it passes a limit.
     pub fn add(&self, other: &Form) -> Option<Form>
         ensures { result ≡ linear.within (linear.plus self.now other.now) }

@@ -6,8 +6,8 @@ use Rattle.side_certs.proofs.closing.summed.Given as goal
 abbrev pub invariant-entries : goal.invariant-entries
 invariant-entries l = record {
   sum : l.sum +ℤ certificate.summed (certificate.number_at l.place) l.facts l.tops l.left ≡ certificate.summed (certificate.number_at l.place) l.facts l.tops l.entries;
-  above : pos (2 ^ 99 * length l.left) ≤ℤ (l.sum +ℤ pos (2 ^ 104));
-  below : (l.sum +ℤ pos (2 ^ 99 * length l.left)) ≤ℤ pos (2 ^ 104);
+  above : pos (2 ^ 95 * length l.left) ≤ℤ (l.sum +ℤ pos (2 ^ 100));
+  below : (l.sum +ℤ pos (2 ^ 95 * length l.left)) ≤ℤ pos (2 ^ 100);
 }
 
 abbrev pub decreases-entries : goal.decreases-entries

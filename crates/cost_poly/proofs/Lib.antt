@@ -1,1 +1,3 @@
+mod Listed
 pub mod Places
+mod Values

@@ -6,7 +6,7 @@ use Rattle.std.proofs.lemmas.List.{take_more_set}
 use Rattle.cost_poly.specs.declared.term.Term.{Term}
 use Rattle.cost_poly.specs.Polynomial.{place_of, AreSymbols, BoundFrom, IsSmall, next_place, are_symbols}
 
-and_parts : (a b : Bool) → (a && b) ≡ true → (a ≡ true) × (b ≡ true)
+pub and_parts : (a b : Bool) → (a && b) ≡ true → (a ≡ true) × (b ≡ true)
 and_parts true b h = (refl, h)
 and_parts false b h = absurd (cc)
 

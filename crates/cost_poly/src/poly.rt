@@ -8,10 +8,10 @@ use crate::term::Term;
 use std::marker::Model;
 
 /// The number of entry symbols that a polynomial can name.
-const SYMBOL_LIMIT: u32 = 8;
+pub(crate) const SYMBOL_LIMIT: u32 = 8;
 
 /// The greatest coefficient.
-const GREATEST_COEFFICIENT: u64 = 1 << 40;
+pub(crate) const GREATEST_COEFFICIENT: u64 = 1 << 40;
 
 /// At most 45 terms over eight symbols, one for 1, eight for the symbols and 36 for their products. A
 /// coefficient is at most 2^40.
@@ -125,15 +125,16 @@ impl Poly {
     }
 
     /// Each polynomial has its limits.
-    fn is_bounded(&self)
+    pub(crate) fn is_bounded(&self)
         ensures count { length self.now ≤ 45 }
         ensures coefficients { AllByRecursion polynomial.IsSmall self.now }
+        ensures bound { polynomial.BoundFrom 0 8 self.now }
     {
         let _ = &self.count;
     }
 
     /// Puts a term behind the last one, where it can stand there.
-    fn push(&mut self, a: Option<u32>, b: Option<u32>, c: u64) -> bool
+    pub(crate) fn push(&mut self, a: Option<u32>, b: Option<u32>, c: u64) -> bool
         ensures can { result ≡ polynomial.can_follow self.old a b c }
         ensures put { self.new ≡ (if result then self.old ++ polynomial.make a b c ∷ [] else self.old) }
     {

@@ -1,1 +1,3 @@
+mod Cancelling
+mod Products
 pub mod Terms

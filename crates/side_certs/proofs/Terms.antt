@@ -5,9 +5,9 @@ use Rattle.std.proofs.lemmas.Bool.{ltb-false, ltb-true, eqb-true, le-leb, leb-tr
 use Rattle.std.proofs.lemmas.Bool.Decides.{nat_tests}
 use Rattle.std.proofs.lemmas.List.{take_more_set}
 use Rattle.std.proofs.Math.Seq.{take-length}
-use Rattle.std.proofs.lemmas.Int.{fits_signed_from_abs, unsigned_abs-mul}
+use Rattle.std.proofs.lemmas.Int.{ints, fits_signed_from_abs, unsigned_abs-mul}
 use Rattle.std.specs.Int.{w64}
-use Rattle.side_certs.specs.LinearForm.{LinearForm, is_small, all_small, is_within, within, keep, keep_all, merge_into, merge, rises_from, has_room, put_behind, terms_times, times}
+use Rattle.side_certs.specs.LinearForm.{LinearForm, is_small, all_small, is_within, within, keep, keep_all, merge_into, merge, rises_from, has_room, put_behind, coefficient, terms_times, times}
 
 pub both : {a b : Bool} → a ≡ true → b ≡ true → (a && b) ≡ true
 both {a = true} {b = b} p q = q
@@ -254,3 +254,22 @@ rises_more slots count u below not_zero rise =
     let more : take (count + 1) (set slots count u) ≡ take count slots ++ u ∷ [] = take_more_set slots count u (omega arith) in
     let kept : keep u.0 u.1 [] ≡ u ∷ [] = rw not_zero refl in
     rw (more, ← kept) rise
+
+-- a symbol before those of terms has no coefficient there
+pub coefficient_before : (s least : ℕ) (ts : List (ℕ × ℤ)) → s < least → rises_from least ts ≡ true → coefficient s ts ≡ pos 0
+coefficient_before s least [] before rise = refl
+coefficient_before s least (t ∷ ts) before rise =
+    let p = rises_parts least t ts rise in
+    let other : nat_eq t.0 s ≡ false = grind (arith, nat_tests, p.0) in
+    let rest : coefficient s ts ≡ pos 0 = coefficient_before s (t.0 + 1) ts (omega (arith, p.0)) p.2 in
+    rw (other, rest) refl
+
+-- of terms whose symbols rise, the first one of a symbol has its coefficient
+pub coefficient_found : (s : ℕ) (ts : List (ℕ × ℤ)) → 1 ≤ length ts → rises_from 0 ts ≡ true → (slice_index_or ts 0 (0, pos 0)).0 ≡ s → (slice_index_or ts 0 (0, pos 0)).1 ≡ coefficient s ts
+coefficient_found s [] some rise is = absurd (omega arith)
+coefficient_found s (t ∷ ts) some rise is =
+    let p = rises_parts 0 t ts rise in
+    let same : nat_eq t.0 s ≡ true = grind (arith, nat_tests) in
+    let rest : coefficient s ts ≡ pos 0 = coefficient_before s (t.0 + 1) ts (omega arith) p.2 in
+    let sum : t.1 +ℤ pos 0 ≡ t.1 = omega (arith, ints) in
+    rw (same, rest) (sym sum)

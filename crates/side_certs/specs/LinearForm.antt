@@ -43,6 +43,10 @@ constant k = record { constant = k; terms = [] }
 abbrev pub symbol : ℕ → LinearForm
 symbol s = record { constant = pos 0; terms = (s, pos 1) ∷ [] }
 
+-- the top of a symbol less the symbol
+abbrev pub below : ℕ → ℕ → LinearForm
+below top s = record { constant = pos top; terms = (s, negsuc 0) ∷ [] }
+
 -- a term before others: one whose coefficient is 0 is left out
 abbrev pub keep : ℕ → ℤ → List (ℕ × ℤ) → List (ℕ × ℤ)
 keep s k ts = if int_eq k (pos 0) then ts else (s, k) ∷ ts
@@ -86,6 +90,15 @@ has_room f k = int_eq k (pos 0) || (nat_lt (length f.terms) most_terms && is_sma
 -- the form with the term behind its terms
 abbrev pub put_behind : LinearForm → ℕ → ℤ → LinearForm
 put_behind f s k = record { constant = f.constant; terms = f.terms ++ keep s k [] }
+
+-- what a term adds to the coefficient of a symbol
+abbrev pub share : ℕ → ℕ × ℤ → ℤ
+share s t = if nat_eq t.0 s then t.1 else pos 0
+
+-- the coefficient of a symbol, 0 where no term has it
+abbrev pub coefficient : ℕ → List (ℕ × ℤ) → ℤ
+coefficient s [] = pos 0
+coefficient s (t ∷ ts) = share s t +ℤ coefficient s ts
 
 -- The value of a form where each symbol has a number of its own.
 

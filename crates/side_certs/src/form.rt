@@ -52,6 +52,19 @@ impl Form {
         }
     }
 
+    /// The form `top - s`.
+    pub(crate) fn below(top: u32, s: u32) -> Form
+        ensures { result ≡ linear.below top s }
+    {
+        let mut slots = [(0, 0); 16];
+        slots[0] = (s, -1);
+        Form {
+            constant: i64::from(top),
+            count: 1,
+            slots,
+        }
+    }
+
     /// The number that is added to the terms.
     pub fn constant_part(&self) -> i64
         ensures { result ≡ self.now.constant }
@@ -74,6 +87,20 @@ impl Form {
         ensures { slice_get self.now.terms k ≡ Some result }
     {
         self.slots[k as usize]
+    }
+
+    /// The coefficient of the symbol `s`, 0 where no term has it.
+    pub fn coefficient(&self, s: u32) -> i64
+        ensures { result ≡ linear.coefficient s self.now.terms }
+    {
+        let mut left = self.all_terms();
+        'terms: while let [term, rest @ ..] = left {
+            if term.0 == s {
+                return term.1;
+            }
+            left = rest;
+        }
+        0
     }
 
     /// The sum of both forms. None exactly where it passes a limit.
@@ -124,7 +151,18 @@ impl Form {
         }
     }
 
-    fn all_terms(&self) -> &[(u32, i64)]
+    /// The form again.
+    pub fn copy(&self) -> Form
+        ensures { result ≡ self.now }
+    {
+        Form {
+            constant: self.constant,
+            count: self.count,
+            slots: self.slots,
+        }
+    }
+
+    pub(crate) fn all_terms(&self) -> &[(u32, i64)]
         ensures terms { result.now ≡ self.now.terms }
         ensures count { length result.now ≤ 16 }
         ensures limits { linear.is_within self.now ≡ true }

@@ -1,0 +1,39 @@
+-- Products of whole numbers: sums, signs and bounds.
+use Rattle.std.proofs.Common.{◌≡◌, ℕ, suc, ◌+◌, ◌-◌, ◌*◌, ◌≤◌, ℤ, pos, negsuc, ◌+ℤ◌, ◌*ℤ◌, neg_ℤ, ◌≤ℤ◌, ap, arith, mul-le-mul}
+use Rattle.std.proofs.lemmas.Int.{ints}
+use borrow.Author.Differences.{up, down, sum_is_lem, product_is}
+
+pub sum_times : (a b c : ℤ) → (a +ℤ b) *ℤ c ≡ (a *ℤ c) +ℤ (b *ℤ c)
+sum_times a b c =
+    let p : (up (a +ℤ b) + down a + down b) * up c ≡ (down (a +ℤ b) + up a + up b) * up c = ap (λ (n : ℕ). n * up c) (sum_is_lem a b) in
+    let q : (up (a +ℤ b) + down a + down b) * down c ≡ (down (a +ℤ b) + up a + up b) * down c = ap (λ (n : ℕ). n * down c) (sum_is_lem a b) in
+    omega (arith, ints, p, q)
+
+pub times_sum : (a b c : ℤ) → a *ℤ (b +ℤ c) ≡ (a *ℤ b) +ℤ (a *ℤ c)
+times_sum a b c =
+    let p : (up (b +ℤ c) + down b + down c) * up a ≡ (down (b +ℤ c) + up b + up c) * up a = ap (λ (n : ℕ). n * up a) (sum_is_lem b c) in
+    let q : (up (b +ℤ c) + down b + down c) * down a ≡ (down (b +ℤ c) + up b + up c) * down a = ap (λ (n : ℕ). n * down a) (sum_is_lem b c) in
+    omega (arith, ints, p, q)
+
+pub times_times : (m : ℕ) (c : ℤ) (n : ℕ) → (pos m *ℤ c) *ℤ pos n ≡ pos m *ℤ (c *ℤ pos n)
+times_times m c n =
+    let p = product_is (pos m) c in
+    let q = product_is c (pos n) in
+    let p_up : up (pos m *ℤ c) * n ≡ (m * up c + 0 * down c) * n = ap (λ (x : ℕ). x * n) p.0 in
+    let p_down : down (pos m *ℤ c) * n ≡ (m * down c + 0 * up c) * n = ap (λ (x : ℕ). x * n) p.1 in
+    let q_up : m * up (c *ℤ pos n) ≡ m * (up c * n + down c * 0) = ap (λ (x : ℕ). m * x) q.0 in
+    let q_down : m * down (c *ℤ pos n) ≡ m * (up c * 0 + down c * n) = ap (λ (x : ℕ). m * x) q.1 in
+    omega (arith, ints, p_up, p_down, q_up, q_down)
+
+-- d times a number is at least -(d - 1) only if the number is at least 0
+pub not_below : (d : ℕ) (g : ℤ) → 1 ≤ d → neg_ℤ (pos (d - 1)) ≤ℤ (pos d *ℤ g) → pos 0 ≤ℤ g
+not_below d (pos n) some enough = omega (arith, ints)
+not_below d (negsuc n) some enough =
+    let same_d : d ≤ d = omega arith in
+    let one : 1 ≤ suc n = omega arith in
+    let least : d * 1 ≤ d * suc n = mul-le-mul same_d one in
+    absurd (omega (arith, ints, enough, least))
+
+pub product_not_below : (m : ℕ) (z : ℤ) → pos 0 ≤ℤ z → pos 0 ≤ℤ (pos m *ℤ z)
+product_not_below m (pos n) some = omega (arith, ints)
+product_not_below m (negsuc n) some = absurd (omega (arith, ints, some))

@@ -2,8 +2,10 @@
 //! difference and multiples. A form stands inside itself and takes no memory.
 #![tactic(auto)]
 
+mod certificate;
 mod form;
 
+pub use certificate::{Cert, Entry};
 pub use form::Form;
 
 #[cfg(test)]

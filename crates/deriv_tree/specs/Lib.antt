@@ -1,0 +1,4 @@
+pub mod Measure
+pub mod Names
+pub mod Preorder
+pub mod Shape

@@ -1,0 +1,10 @@
+mod Accepted
+mod Answered
+mod Behind
+mod Bindings
+mod Covers
+mod ExprValues
+mod Fits
+mod Start
+mod StmtSteps
+mod Yields

@@ -1,0 +1,4 @@
+pub mod Hex
+pub mod Given
+pub mod Places
+pub mod Values

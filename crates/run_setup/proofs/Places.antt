@@ -1,0 +1,221 @@
+-- Where things stand: regions one after another are disjoint, and they end below 2^32.
+use Rattle.std.proofs.Common.{◌≡◌, ℕ, zero, suc, ◌+◌, ◌-◌, ◌*◌, ◌%◌, ◌^◌, ◌<◌, ◌≤◌, List, [], ◌∷◌, ◌++◌, length, replicate, Option, Some, None, ℤ, refl, sym, ap, ◌∙◌, length-append, arith}
+use Rattle.std.specs.Prelude.{All, sum_by}
+use Rattle.std.specs.List.{flat_map, AllByRecursion}
+use Rattle.std.proofs.lemmas.List.Elements.{All-nil, All-cons}
+use Rattle.std.proofs.lemmas.List.{length-replicate, append-nil}
+use Rattle.std.proofs.lemmas.List.Sums.{sum_by-cons}
+use Rattle.rup_base.specs.declared.arg.Kind.{Kind}
+use Rattle.rup_base.specs.declared.arg.Kind.TheVariants as kind
+use Rattle.rup_base.specs.declared.arg.Arg.{Arg}
+use Rattle.rup_base.specs.declared.arg.Arg.TheVariants as arg
+use Rattle.side_certs.specs.LinearForm.{LinearForm}
+use Rattle.cost_poly.specs.declared.term.Term.{Term}
+use Rattle.image_layout.specs.declared.image.Image.{Image}
+use Rattle.image_layout.specs.Spelling as image
+use Rattle.image_layout.proofs.Limits.{params_few, terms_few, rets_few, bound_few}
+use Rattle.rv_memory.specs.Bytes.{IsApart, AreDisjoint}
+use Rattle.run_setup.specs.Arguments.{bytes_of_words, array_limit}
+use Rattle.run_setup.specs.Judging.{size_of, total_size, capped, length_value, symbol_values}
+use Rattle.run_setup.specs.Loading.{base, aligned, end_after, end_of, array_region, array_regions, registers_with, argument_values, image_end, stack_start, regions}
+
+-- Regions that rise from an address on.
+
+abbrev pub Rises : ℕ → List (ℕ × List ℕ) → Type 0
+Rises low [] = Unit {0}
+Rises low (r ∷ rs) = (low ≤ r.0) × Rises (r.0 + length r.1) rs
+
+rises_apart : (r : ℕ × List ℕ) (low : ℕ) (rs : List (ℕ × List ℕ)) → r.0 + length r.1 ≤ low → Rises low rs → All (IsApart r) rs
+rises_apart r low [] behind rises = All-nil (IsApart r)
+rises_apart r low (q ∷ qs) behind rises =
+    All-cons (IsApart r) q qs (λ a from below start end. omega (arith, behind, rises.0, from, below, start, end))
+    (rises_apart r (q.0 + length q.1) qs (omega (arith, behind, rises.0)) rises.1)
+
+pub rises_disjoint : (low : ℕ) (rs : List (ℕ × List ℕ)) → Rises low rs → AreDisjoint rs
+rises_disjoint low [] rises = tt
+rises_disjoint low (r ∷ rs) rises = (rises_apart r (r.0 + length r.1) rs (omega arith) rises.1, rises_disjoint (r.0 + length r.1) rs rises.1)
+
+-- Sizes.
+
+pub words_size : (words : List ℕ) → length (bytes_of_words words) ≡ 4 * length words
+words_size [] = refl
+words_size (w ∷ words) = let rest : length (bytes_of_words words) ≡ 4 * length words = words_size words in omega (arith, rest)
+
+pub aligned_near : (address : ℕ) → (address ≤ aligned address) × (aligned address ≤ address + 15)
+aligned_near address = (omega arith, omega arith)
+
+pub aligned_whole : (address : ℕ) → aligned address % 16 ≡ 0
+aligned_whole address = omega arith
+
+pub end_near : (end : ℕ) (a : Arg) → end_after end a ≤ end + 15 + size_of a
+end_near end (arg.Word n) = omega arith
+end_near end (arg.Bytes bytes) = omega (arith, (aligned_near end).1)
+end_near end (arg.Words words) = omega (arith, (aligned_near end).1)
+
+pub end_bound : (end : ℕ) (args : List Arg) → end_of end args ≤ end + 15 * length args + total_size args
+end_bound end [] = omega arith
+end_bound end (a ∷ args) = omega (arith, end_near end a, end_bound (end_after end a) args)
+
+pub end_grows : (end : ℕ) (args : List Arg) → end ≤ end_of end args
+end_grows end [] = omega arith
+end_grows end (arg.Word n ∷ args) = end_grows end args
+end_grows end (arg.Bytes bytes ∷ args) = omega (arith, (aligned_near end).0, end_grows (end_after end (arg.Bytes bytes)) args)
+end_grows end (arg.Words words ∷ args) = omega (arith, (aligned_near end).0, end_grows (end_after end (arg.Words words)) args)
+
+-- the arrays rise, and the stack is behind them
+pub arrays_rise : (end : ℕ) (args : List Arg) (low : ℕ) (stack : List ℕ) → low ≤ end → Rises low (array_regions end args ++ (aligned (end_of end args), stack) ∷ [])
+arrays_rise end [] low stack behind = (omega (arith, behind, (aligned_near end).0), tt)
+arrays_rise end (arg.Word n ∷ args) low stack behind = arrays_rise end args low stack behind
+arrays_rise end (arg.Bytes bytes ∷ args) low stack behind =
+    (omega (arith, behind, (aligned_near end).0), arrays_rise (aligned end + length bytes) args (aligned end + length bytes) stack (omega arith))
+arrays_rise end (arg.Words words ∷ args) low stack behind =
+    (omega (arith, behind, (aligned_near end).0), arrays_rise (aligned end + 4 * length words) args (aligned end + length (bytes_of_words words)) stack (omega (arith, words_size words)))
+
+pub regions_disjoint : (i : Image) (args : List Arg) → AreDisjoint (regions i args)
+unfolding regions
+regions_disjoint i args =
+    let rises : Rises base ((base, image.spelling i) ∷ (array_regions (image_end i) args ++ (stack_start i args, replicate i.stack 0) ∷ [])) =
+        (omega arith, arrays_rise (image_end i) args (image_end i) (replicate i.stack 0) (omega arith)) in
+    rises_disjoint base ((base, image.spelling i) ∷ (array_regions (image_end i) args ++ (stack_start i args, replicate i.stack 0) ∷ [])) rises
+
+abbrev Ends : ℕ × List ℕ → Type 0
+Ends r = r.0 + length r.1 ≤ 2 ^ 32
+
+arrays_end : (end : ℕ) (args : List Arg) (stack : List ℕ) → aligned (end_of end args) + length stack ≤ 2 ^ 32 → All Ends (array_regions end args ++ (aligned (end_of end args), stack) ∷ [])
+arrays_end end [] stack below = All-cons Ends (aligned end, stack) [] below (All-nil Ends)
+arrays_end end (arg.Word n ∷ args) stack below = arrays_end end args stack below
+arrays_end end (arg.Bytes bytes ∷ args) stack below =
+    let next = aligned end + length bytes in
+    All-cons Ends (aligned end, bytes) (array_regions next args ++ (aligned (end_of next args), stack) ∷ [])
+    (omega (arith, below, end_grows next args, (aligned_near (end_of next args)).0)) (arrays_end next args stack below)
+arrays_end end (arg.Words words ∷ args) stack below =
+    let next = aligned end + 4 * length words in
+    All-cons Ends (aligned end, bytes_of_words words) (array_regions next args ++ (aligned (end_of next args), stack) ∷ [])
+    (omega (arith, below, words_size words, end_grows next args, (aligned_near (end_of next args)).0)) (arrays_end next args stack below)
+
+-- The image.
+
+params_size : (ks : List Kind) → length (flat_map image.parameter ks) ≤ 8 * length ks
+params_size [] = omega arith
+params_size (kind.Word ∷ ks) = omega (arith, params_size ks)
+params_size (kind.Byte ∷ ks) = omega (arith, params_size ks)
+params_size (kind.Bytes n ∷ ks) = omega (arith, length-append (image.parameter (kind.Bytes n)) (flat_map image.parameter ks), param_bytes n, params_size ks)
+  where
+    param_bytes : (n : Option ℕ) → length (image.parameter (kind.Bytes n)) ≡ 8
+    param_bytes None = refl
+    param_bytes (Some k) = refl
+params_size (kind.Words n ∷ ks) = omega (arith, length-append (image.parameter (kind.Words n)) (flat_map image.parameter ks), param_words n, params_size ks)
+  where
+    param_words : (n : Option ℕ) → length (image.parameter (kind.Words n)) ≡ 8
+    param_words None = refl
+    param_words (Some k) = refl
+
+terms_size : (ts : List (ℕ × ℤ)) → length (flat_map image.form_term ts) ≡ 12 * length ts
+terms_size [] = refl
+terms_size (t ∷ ts) = let rest : length (flat_map image.form_term ts) ≡ 12 * length ts = terms_size ts in omega (arith, rest)
+
+requirements_size : (count : ℕ) (fs : List LinearForm) → count ≤ 8 → AllByRecursion (image.IsRequirement count) fs → length (flat_map image.requirement fs) ≤ 108 * length fs
+requirements_size count [] few all = omega arith
+requirements_size count (f ∷ fs) few all =
+    let terms : 0 + length f.terms ≤ count = terms_few 0 count f.terms (omega arith) all.0.terms_fit in
+    let size : length (image.requirement f) ≡ 12 + 12 * length f.terms = omega (arith, terms_size f.terms) in
+    omega (arith, length-append (image.requirement f) (flat_map image.requirement fs), requirements_size count fs few all.1, size, terms, few)
+
+symbol_size : (s : Option ℕ) → length (image.symbol s) ≡ 4
+symbol_size None = refl
+symbol_size (Some n) = refl
+
+rets_size : (rs : List (Option ℕ)) → length (flat_map image.symbol rs) ≡ 4 * length rs
+rets_size [] = refl
+rets_size (r ∷ rs) = omega (arith, length-append (image.symbol r) (flat_map image.symbol rs), symbol_size r, rets_size rs)
+
+bound_size : (ts : List Term) → length (flat_map image.bound_term ts) ≡ 16 * length ts
+bound_size [] = refl
+bound_size (t ∷ ts) =
+    let size : length (image.bound_term t) ≡ 16 = omega (arith, length-append (image.symbol t.first) (image.symbol t.second ++ image.wide t.coefficient), length-append (image.symbol t.second) (image.wide t.coefficient), symbol_size t.first, symbol_size t.second) in
+    omega (arith, length-append (image.bound_term t) (flat_map image.bound_term ts), size, bound_size ts)
+
+symbols_near : (k : Kind) → image.symbols_of k ≤ image.registers_of k
+symbols_near kind.Word = omega arith
+symbols_near kind.Byte = omega arith
+symbols_near (kind.Bytes None) = omega arith
+symbols_near (kind.Bytes (Some n)) = omega arith
+symbols_near (kind.Words None) = omega arith
+symbols_near (kind.Words (Some n)) = omega arith
+
+symbols_few : (ks : List Kind) → image.symbol_count ks ≤ sum_by image.registers_of ks
+symbols_few [] = omega arith
+symbols_few (k ∷ ks) = omega (arith, symbols_near k, symbols_few ks, sum_by-cons image.symbols_of k ks, sum_by-cons image.registers_of k ks)
+
+lists_small : (i : Image) → image.IsWithinLimits i → length (image.lists i) ≤ 450000
+lists_small i w =
+    let count : image.symbol_count i.params ≤ 8 = omega (arith, symbols_few i.params, w.registers_most) in
+    let kinds : length i.params ≤ 8 = omega (arith, params_few i.params, w.registers_most) in
+    let rets = rets_few i.params i.rets w.rets_fit in
+    let bound = bound_few (image.symbol_count i.params) i.bound count w.bound_fits in
+    let requirements = requirements_size (image.symbol_count i.params) i.requires_ count w.requires_fit in
+    omega (arith, length-append (flat_map image.parameter i.params) (flat_map image.requirement i.requires_ ++ (flat_map image.symbol i.rets ++ flat_map image.bound_term i.bound)),
+    length-append (flat_map image.requirement i.requires_) (flat_map image.symbol i.rets ++ flat_map image.bound_term i.bound),
+    length-append (flat_map image.symbol i.rets) (flat_map image.bound_term i.bound),
+    params_size i.params, requirements, rets_size i.rets, bound_size i.bound, kinds, rets, bound, w.requires_most)
+
+pub entry_small : (i : Image) → image.IsWithinLimits i → i.entry ≤ 1600000
+entry_small i w = omega (arith, lists_small i w, w.entry_below, w.code_most)
+
+pub params_most : (i : Image) → image.IsWithinLimits i → length i.params ≤ 8
+params_most i w = omega (arith, params_few i.params, w.registers_most)
+
+pub image_small : (i : Image) → image.IsWithinLimits i → length (image.spelling i) ≤ 1600000
+image_small i w =
+    let lists = lists_small i w in
+    let filling : image.code_offset i - image.header_length i ≤ 15 = omega arith in
+    let rest : length (replicate (image.code_offset i - image.header_length i) 0 ++ (i.code ++ i.tables)) ≤ 15 + 1000000 + 131072 =
+        omega (arith, length-append (replicate (image.code_offset i - image.header_length i) 0) (i.code ++ i.tables), length-append i.code i.tables, length-replicate {A = ℕ} (image.code_offset i - image.header_length i) 0, filling, w.code_most, w.tables_most) in
+    omega (arith, length-append (image.fixed_fields i) (image.lists i ++ (replicate (image.code_offset i - image.header_length i) 0 ++ (i.code ++ i.tables))),
+    length-append (image.lists i) (replicate (image.code_offset i - image.header_length i) 0 ++ (i.code ++ i.tables)), fixed_size i, lists, rest)
+  where
+    fixed_size : (i : Image) → length (image.fixed_fields i) ≡ 48
+    fixed_size i = refl
+
+pub values_few : (end : ℕ) (kinds : List Kind) (args : List Arg) → length (argument_values end kinds args) ≤ 2 * length args
+values_few end [] [] = omega arith
+values_few end [] (a ∷ args) = omega arith
+values_few end (k ∷ kinds) [] = omega arith
+values_few end (k ∷ kinds) (a ∷ args) =
+    omega (arith, length-append (registers_with end k a) (argument_values (end_after end a) kinds args), one_few a, values_few (end_after end a) kinds args)
+  where
+    named : (k : Kind) (n : ℕ) → length (length_value k n) ≤ 1
+    named kind.Word n = omega arith
+    named kind.Byte n = omega arith
+    named (kind.Bytes None) n = omega arith
+    named (kind.Bytes (Some m)) n = omega arith
+    named (kind.Words None) n = omega arith
+    named (kind.Words (Some m)) n = omega arith
+    one_few : (a : Arg) → length (registers_with end k a) ≤ 2
+    one_few (arg.Word n) = omega arith
+    one_few (arg.Bytes bytes) = omega (arith, named k (length bytes))
+    one_few (arg.Words words) = omega (arith, named k (length words))
+
+pub regions_end : (i : Image) (args : List Arg) → image.IsWithinLimits i → length args ≤ 8 → total_size args ≤ array_limit → All (λ r. r.0 + length r.1 ≤ 2 ^ 32) (regions i args)
+unfolding regions
+regions_end i args w few small =
+    let size = image_small i w in
+    let arrays = end_bound (image_end i) args in
+    let stack = aligned_near (end_of (image_end i) args) in
+    All-cons Ends (base, image.spelling i) (array_regions (image_end i) args ++ (stack_start i args, replicate i.stack 0) ∷ []) (omega (arith, size))
+    (arrays_end (image_end i) args (replicate i.stack 0) (omega (arith, size, arrays, stack.1, few, small, w.stack_most, length-replicate {A = ℕ} i.stack 0)))
+
+-- nothing is left, so what was put is the whole
+pub values_done : (end : ℕ) (kinds : List Kind) (left : List Arg) (values whole : List ℕ) → length left < 1 → values ++ argument_values end kinds left ≡ whole → values ≡ whole
+values_done end kinds (a ∷ left) values whole none so_far = absurd (omega (arith, none))
+values_done end [] [] values whole none so_far = sym (append-nil values) ∙ so_far
+values_done end (k ∷ kinds) [] values whole none so_far = sym (append-nil values) ∙ so_far
+
+pub symbols_done : (kinds : List Kind) (left : List Arg) (values whole : List ℕ) → length left < 1 → values ++ symbol_values kinds left ≡ whole → values ≡ whole
+symbols_done kinds (a ∷ left) values whole none so_far = absurd (omega (arith, none))
+symbols_done [] [] values whole none so_far = sym (append-nil values) ∙ so_far
+symbols_done (k ∷ kinds) [] values whole none so_far = sym (append-nil values) ∙ so_far
+
+pub total_done : (total : ℕ) (left args : List Arg) → length left < 1 → total < 2 ^ 64 → capped (total + total_size left) ≡ capped (total_size args) → total ≡ capped (total_size args)
+total_done total (a ∷ left) args none small so_far = absurd (omega (arith, none))
+total_done total [] args none small so_far = let same : total ≡ capped (total + 0) = omega (arith, small) in same ∙ so_far

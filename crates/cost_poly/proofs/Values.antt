@@ -70,7 +70,7 @@ total_other values f g one (suc place) less none all =
     by_place h true e =
         let is : place ≡ one = eqb-true _ _ e in
         let others : total values f place ≡ total values g place =
-            total_same values f g place (λ k lesser. all k (omega arith) (grind (arith, nat_tests))) in
+        total_same values f g place (λ k lesser. all k (omega arith) (grind (arith, nat_tests))) in
         let here : f place * weight values place ≡ f one * weight values one = ap (λ (n : ℕ). f n * weight values n) is in
         let nothing : g place * weight values place ≡ 0 = ap (λ (n : ℕ). g n * weight values place) is ∙ ap (λ (n : ℕ). n * weight values place) none ∙ omega arith in
         omega (arith, others, here, nothing)
@@ -114,12 +114,12 @@ value_total values least (t ∷ ts) bound =
     let below : place_of t.first t.second < 45 = place_below t.first t.second bound.0 in
     let rest : at values ts ≡ total values (coefficient_at ts) 45 = value_total values (place_of t.first t.second + 1) ts bound.4 in
     let none : coefficient_at ts (place_of t.first t.second) ≡ 0 =
-        rw symbols (coefficient_before t.first t.second (place_of t.first t.second + 1) ts (omega arith) bound.4) in
+    rw symbols (coefficient_before t.first t.second (place_of t.first t.second + 1) ts (omega arith) bound.4) in
     let one = total_other values (coefficient_at (t ∷ ts)) (coefficient_at ts) (place_of t.first t.second) 45 below none others in
     let here : coefficient_at (t ∷ ts) (place_of t.first t.second) ≡ t.coefficient = rw (symbols, same t.first, same t.second) refl in
     let weighs : weight values (place_of t.first t.second) ≡ value_of values t.first * value_of values t.second = weight_is values (place_of t.first t.second) (t.first, t.second) symbols in
     let product : coefficient_at (t ∷ ts) (place_of t.first t.second) * weight values (place_of t.first t.second) ≡ t.coefficient * (value_of values t.first * value_of values t.second) =
-        rw (here, weighs) refl in
+    rw (here, weighs) refl in
     omega (arith, rest, one, product)
   where
     symbols : symbols_at (place_of t.first t.second) ≡ (t.first, t.second)

@@ -1,5 +1,5 @@
 -- Polynomials of degree 2 over eight symbols, whose coefficients are whole numbers: bounds of the steps of a call.
-use Rattle.std.specs.Prelude.{ℕ, zero, suc, max, map, Result, Ok, Err, ℤ, pos, nat_abs, ◌≤ℤ◌, ◌+◌, ◌-◌, ◌*◌, ◌/◌, ◌^◌, ◌<◌, ◌≤◌, Bool, true, false, ◌&&◌, List, [], ◌∷◌, ◌++◌, Option, Some, None, nat_eq, nat_lt, nat_le, slice_index_or, if◌then◌else◌, ⊤}
+use Rattle.std.specs.Prelude.{ℕ, zero, suc, max, map, Result, Ok, Err, ℤ, pos, nat_abs, ◌+◌, ◌-◌, ◌*◌, ◌/◌, ◌^◌, ◌<◌, ◌≤◌, Bool, true, false, ◌&&◌, List, [], ◌∷◌, ◌++◌, Option, Some, None, nat_eq, nat_lt, nat_le, slice_index_or, if◌then◌else◌, ⊤}
 use Rattle.side_certs.specs.LinearForm.{LinearForm}
 use Rattle.side_certs.specs.LinearForm as linear
 use Rattle.cost_poly.specs.declared.term.Term.{Term}
@@ -185,11 +185,3 @@ abbrev pub scaled : List Term → LinearForm → Result (List Term) Wide
 scaled p f =
     if nat_eq (greatest_cubic p f) 0 then within (product p f)
     else Err (record { degree = 3; coefficient = max (greatest_cubic p f) (greatest (product p f) product_count) })
-
--- no number of the form is negative, and its symbols are below the limit
-abbrev pub AreEntryTerms : List (ℕ × ℤ) → Type 0
-AreEntryTerms [] = ⊤
-AreEntryTerms (t ∷ ts) = (t.0 < symbol_limit) × (pos 0 ≤ℤ t.1) × AreEntryTerms ts
-
-abbrev pub IsEntryForm : LinearForm → Type 0
-IsEntryForm f = (pos 0 ≤ℤ f.constant) × AreEntryTerms f.terms

@@ -1,6 +1,5 @@
 //! Sums, products and greater ones of polynomials.
-ghost use Rattle.std.specs.Prelude.{◌≡◌, ◌≤◌, ◌<◌, ◌+◌, ◌*◌, ◌*ℤ◌, ◌^◌, ℕ, List, pos, true, slice_index_or, IfOk};
-ghost use Rattle.side_certs.specs.LinearForm as linear;
+ghost use Rattle.std.specs.Prelude.{◌≡◌, ◌≤◌, ◌<◌, ◌+◌, ◌*◌, ◌^◌, ℕ, List, slice_index_or, IfOk};
 ghost use Rattle.cost_poly.specs.Polynomial as polynomial;
 
 use crate::coefficients::{PRODUCT_COUNT, greatest, larger, listed, symbols, within};
@@ -30,9 +29,9 @@ impl Poly {
     }
 
     /// The product with a linear form over entry symbols that has no negative number. An error exactly where it
-    /// passes a limit.
+    /// passes a limit. Of any other form the magnitudes of the constant and of the coefficients of the symbols below 8
+    /// are taken.
     pub fn scale(&self, t: &Form) -> Result<Poly, Wide>
-        requires { polynomial.IsEntryForm t.now }
         ensures { result ≡ polynomial.scaled self.now t.now }
     {
         let numbers = self.products(t);

@@ -1,5 +1,6 @@
 //! Values that were worked out by hand, and the limits.
 use crate::*;
+use side_certs::Form;
 use std::test::*;
 
 const GREATEST: u64 = 1 << 40;
@@ -68,5 +69,71 @@ fn values(rt: HostRuntime) -> Result<(), Fail> {
         Poly::zero().with_term(None, None, 0).is_none(),
         "a coefficient 0"
     );
+    Ok(())
+}
+
+/// c, and k times the product of a and b.
+fn polynomial(c: u64, a: Option<u32>, b: Option<u32>, k: u64) -> Result<Poly, &'static str> {
+    let constant = Poly::term(None, None, c).ok_or("the constant")?;
+    let product = Poly::term(a, b, k).ok_or("the product")?;
+    constant.add(&product).ok().ok_or("the sum")
+}
+
+/// c, and k times the symbol s.
+fn form(c: i64, s: u32, k: i64) -> Result<Form, &'static str> {
+    let constant = Form::constant(c).ok_or("the constant")?;
+    let multiple = Form::symbol(s).scale(k).ok_or("the multiple")?;
+    constant.add(&multiple).ok_or("the sum")
+}
+
+#[test]
+fn sums_and_greater_ones(rt: HostRuntime) -> Result<(), Fail> {
+    // 10 + 2*s0*s1, 4 + 3*s0*s1
+    let left = polynomial(10, Some(0), Some(1), 2)?;
+    let right = polynomial(4, Some(0), Some(1), 3)?;
+    let sum = left.add(&right).ok().ok_or("the sum")?;
+    let greater = left.max(&right);
+    assert_eq!(rt; sum.coefficient(None, None), 14, "10 and 4");
+    assert_eq!(rt; sum.coefficient(Some(0), Some(1)), 5, "2 and 3");
+    assert_eq!(rt; greater.coefficient(None, None), 10, "10 or 4");
+    assert_eq!(rt; greater.coefficient(Some(0), Some(1)), 3, "2 or 3");
+    assert_eq!(rt; sum.terms().len(), 2, "the terms of the sum");
+    Ok(())
+}
+
+#[test]
+fn products(rt: HostRuntime) -> Result<(), Fail> {
+    // (1 + 3*s1) * (2 + 4*s1) is 2 + 10*s1 + 12*s1*s1
+    let bound = polynomial(1, Some(1), None, 3)?;
+    let square = bound.scale(&form(2, 1, 4)?).ok().ok_or("the square")?;
+    assert_eq!(rt; square.coefficient(None, None), 2, "its constant");
+    assert_eq!(rt; square.coefficient(Some(1), None), 10, "its linear term");
+    assert_eq!(rt; square.coefficient(Some(1), Some(1)), 12, "its square");
+    assert_eq!(rt; square.at(&[0, 5]), 352, "16 times 22");
+    Ok(())
+}
+
+#[test]
+fn products_past_limits(rt: HostRuntime) -> Result<(), Fail> {
+    // the bound's constant, symbols and coefficient, and the form's constant, symbol and coefficient
+    let rows: [(u64, Option<u32>, Option<u32>, u64, i64, u32, i64, u32, u128); 5] = [
+        (0, None, None, GREATEST, 2, 0, 0, 0, 1 << 41),
+        (5, Some(7), None, GREATEST, 2, 0, 0, 1, 1 << 41),
+        (5, Some(7), None, GREATEST, 0, 7, 1 << 40, 2, 1 << 80),
+        (1, Some(0), Some(2), 3, 1, 1, 2, 3, 6),
+        (GREATEST, Some(0), Some(0), 2, 1 << 40, 0, 1, 3, 1 << 80),
+    ];
+    for (c, a, b, k, constant, symbol, multiple, degree, coefficient) in rows {
+        let bound = polynomial(c, a, b, k)?;
+        let result = bound.scale(&form(constant, symbol, multiple)?);
+        assert_eq!(rt;
+            result.err(),
+            Some(Wide {
+                degree,
+                coefficient
+            }),
+            "{c} + {k}*{a:?}*{b:?} times {constant} + {multiple}*{symbol}"
+        );
+    }
     Ok(())
 }

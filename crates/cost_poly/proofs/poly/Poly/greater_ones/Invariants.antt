@@ -5,7 +5,7 @@ use Rattle.cost_poly.proofs.poly.Poly.greater_ones.Given as goal
 -- the coefficients so far
 abbrev pub invariant-loop-place : goal.invariant-loop-place
 invariant-loop-place l = record {
-    size : length l.numbers ≡ 45;
-    numbers : (place : ℕ) → place < l.place → slice_index_or l.numbers place 0 ≡ polynomial.greater l.self l.other place;
-    small : (place : ℕ) → place < l.place → slice_index_or l.numbers place 0 ≤ 2 ^ 40;
-  }
+  size : length l.numbers ≡ 45;
+  numbers : (place : ℕ) → place < l.place → slice_index_or l.numbers place 0 ≡ polynomial.greater l.self l.other place;
+  small : (place : ℕ) → place < l.place → slice_index_or l.numbers place 0 ≤ 2 ^ 40;
+}

@@ -1,5 +1,5 @@
 use Rattle.std.proofs.Common.{sym}
-use Rattle.cost_poly.specs.Polynomial.{greatest, cubic}
+use Rattle.cost_poly.specs.Polynomial.{cubic}
 use Rattle.cost_poly.proofs.Listed.{greatest_none, greater_of}
 use Rattle.cost_poly.proofs.poly.Poly.greatest_between.Goals as goal
 

@@ -1,5 +1,5 @@
-use Rattle.std.proofs.Common.{◌≡◌, ◌≤◌, ◌∙◌, List, ℕ, slice_index_or}
-use Rattle.cost_poly.specs.Polynomial.{at, greater}
+use Rattle.std.proofs.Common.{◌∙◌, slice_index_or}
+use Rattle.cost_poly.specs.Polynomial.{greater}
 use Rattle.cost_poly.proofs.Listed.{listed_same}
 use Rattle.cost_poly.proofs.Values.{greater_value}
 use Rattle.cost_poly.proofs.poly.Poly.max.Goals as goal

@@ -4,7 +4,7 @@ use Rattle.side_certs.proofs.form.Form.coefficient.Given as goal
 
 -- what is left has the coefficient, and its symbols rise
 abbrev pub invariant-terms : goal.invariant-terms
-invariant-terms l = record { found : linear.coefficient l.s l.left ≡ linear.coefficient l.s l.self.terms; rising : linear.rises_from 0 l.left ≡ true; }
+invariant-terms l = record { found : linear.coefficient l.s l.left ≡ linear.coefficient l.s l.self.terms; rising : linear.rises_from 0 l.left ≡ true }
 
 abbrev pub decreases-terms : goal.decreases-terms
 decreases-terms l = length l.left

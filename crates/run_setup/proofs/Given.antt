@@ -52,10 +52,10 @@ cause_at held first k place kind text texts source before start now last last_st
     (cause.0 ∙ same, cause.1 ∙ kept)
 cause_at held first k place kind text texts source before start now last last_start last_now (ReadFault at) reads cause here is same kept =
     let number : at - first ≡ k = omega (arith, reads.0, here) in
-    let name : only place text at ≡ Some text = ap (only place text) reads.0 ∙ only_is place text in
-    ( rw (← same) cause.0
-    , rw (← same) cause.1
-    , cause.2 ∙ name ∙ sym is ∙ ap (slice_get texts) (sym number)
+    let name : only place text at ≡ Some text = ap (only place text) reads.0 ∙ only_is place text in (
+      rw (← same) cause.0,
+      rw (← same) cause.1,
+      cause.2 ∙ name ∙ sym is ∙ ap (slice_get texts) (sym number),
     )
 
 -- where there are as many words as parameters, the answer for each is the answer for all

@@ -75,7 +75,7 @@ pub regions_disjoint : (i : Image) (args : List Arg) → AreDisjoint (regions i 
 unfolding regions
 regions_disjoint i args =
     let rises : Rises base ((base, image.spelling i) ∷ (array_regions (image_end i) args ++ (stack_start i args, replicate i.stack 0) ∷ [])) =
-        (omega arith, arrays_rise (image_end i) args (image_end i) (replicate i.stack 0) (omega arith)) in
+    (omega arith, arrays_rise (image_end i) args (image_end i) (replicate i.stack 0) (omega arith)) in
     rises_disjoint base ((base, image.spelling i) ∷ (array_regions (image_end i) args ++ (stack_start i args, replicate i.stack 0) ∷ [])) rises
 
 abbrev Ends : ℕ × List ℕ → Type 0
@@ -154,10 +154,20 @@ lists_small i w =
     let rets = rets_few i.params i.rets w.rets_fit in
     let bound = bound_few (image.symbol_count i.params) i.bound count w.bound_fits in
     let requirements = requirements_size (image.symbol_count i.params) i.requires_ count w.requires_fit in
-    omega (arith, length-append (flat_map image.parameter i.params) (flat_map image.requirement i.requires_ ++ (flat_map image.symbol i.rets ++ flat_map image.bound_term i.bound)),
-    length-append (flat_map image.requirement i.requires_) (flat_map image.symbol i.rets ++ flat_map image.bound_term i.bound),
-    length-append (flat_map image.symbol i.rets) (flat_map image.bound_term i.bound),
-    params_size i.params, requirements, rets_size i.rets, bound_size i.bound, kinds, rets, bound, w.requires_most)
+    omega (
+      arith,
+      length-append (flat_map image.parameter i.params) (flat_map image.requirement i.requires_ ++ (flat_map image.symbol i.rets ++ flat_map image.bound_term i.bound)),
+      length-append (flat_map image.requirement i.requires_) (flat_map image.symbol i.rets ++ flat_map image.bound_term i.bound),
+      length-append (flat_map image.symbol i.rets) (flat_map image.bound_term i.bound),
+      params_size i.params,
+      requirements,
+      rets_size i.rets,
+      bound_size i.bound,
+      kinds,
+      rets,
+      bound,
+      w.requires_most,
+    )
 
 pub entry_small : (i : Image) → image.IsWithinLimits i → i.entry ≤ 1600000
 entry_small i w = omega (arith, lists_small i w, w.entry_below, w.code_most)
@@ -170,9 +180,15 @@ image_small i w =
     let lists = lists_small i w in
     let filling : image.code_offset i - image.header_length i ≤ 15 = omega arith in
     let rest : length (replicate (image.code_offset i - image.header_length i) 0 ++ (i.code ++ i.tables)) ≤ 15 + 1000000 + 131072 =
-        omega (arith, length-append (replicate (image.code_offset i - image.header_length i) 0) (i.code ++ i.tables), length-append i.code i.tables, length-replicate {A = ℕ} (image.code_offset i - image.header_length i) 0, filling, w.code_most, w.tables_most) in
-    omega (arith, length-append (image.fixed_fields i) (image.lists i ++ (replicate (image.code_offset i - image.header_length i) 0 ++ (i.code ++ i.tables))),
-    length-append (image.lists i) (replicate (image.code_offset i - image.header_length i) 0 ++ (i.code ++ i.tables)), fixed_size i, lists, rest)
+    omega (arith, length-append (replicate (image.code_offset i - image.header_length i) 0) (i.code ++ i.tables), length-append i.code i.tables, length-replicate {A = ℕ} (image.code_offset i - image.header_length i) 0, filling, w.code_most, w.tables_most) in
+    omega (
+      arith,
+      length-append (image.fixed_fields i) (image.lists i ++ (replicate (image.code_offset i - image.header_length i) 0 ++ (i.code ++ i.tables))),
+      length-append (image.lists i) (replicate (image.code_offset i - image.header_length i) 0 ++ (i.code ++ i.tables)),
+      fixed_size i,
+      lists,
+      rest,
+    )
   where
     fixed_size : (i : Image) → length (image.fixed_fields i) ≡ 48
     fixed_size i = refl
@@ -191,6 +207,7 @@ values_few end (k ∷ kinds) (a ∷ args) =
     named (kind.Bytes (Some m)) n = omega arith
     named (kind.Words None) n = omega arith
     named (kind.Words (Some m)) n = omega arith
+
     one_few : (a : Arg) → length (registers_with end k a) ≤ 2
     one_few (arg.Word n) = omega arith
     one_few (arg.Bytes bytes) = omega (arith, named k (length bytes))

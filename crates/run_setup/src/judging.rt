@@ -36,7 +36,9 @@ fn judge_count(kinds: &[Kind], args: &[Arg]) -> Result<(), Fail>
     ensures count { OnOk result (length args.now ≡ length kinds.now) }
 {
     if args.len() != kinds.len() {
-        return Err(Fail::Refused(Refusal::BadArguments { which: ArgFault::Count }));
+        return Err(Fail::Refused(Refusal::BadArguments {
+            which: ArgFault::Count,
+        }));
     }
     Ok(())
 }
@@ -71,7 +73,9 @@ fn judge_kinds(kinds: &[Kind], args: &[Arg]) -> Result<(), Fail>
 {
     for k in 0..kinds.len() {
         if !fits(kinds[k], &args[k]) {
-            return Err(Fail::Refused(Refusal::BadArguments { which: ArgFault::Param(k as u32) }));
+            return Err(Fail::Refused(Refusal::BadArguments {
+                which: ArgFault::Param(k as u32),
+            }));
         }
     }
     Ok(())
@@ -163,7 +167,9 @@ fn judge_requirements(forms: &[Form], values: &[u32]) -> Result<(), Fail>
     let mut left = forms;
     'forms: while let [first, rest @ ..] = left {
         if !holds(first, values) {
-            return Err(Fail::Refused(Refusal::BadArguments { which: ArgFault::Require(k) }));
+            return Err(Fail::Refused(Refusal::BadArguments {
+                which: ArgFault::Require(k),
+            }));
         }
         k += 1;
         left = rest;

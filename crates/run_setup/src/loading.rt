@@ -99,12 +99,7 @@ pub fn end_of(end: u32, args: &[Arg]) -> u32
 
 /// The registers that the run starts with.
 #[tactic(auto, unfolding(crate::specs::Loading::registers))]
-fn registers(
-    alloc: Global,
-    i: &Image,
-    args: &[Arg],
-    image_end: u32,
-) -> Result<[u32; 32], NoMemory>
+fn registers(alloc: Global, i: &Image, args: &[Arg], image_end: u32) -> Result<[u32; 32], NoMemory>
     requires limits { IsWithinLimits i.now }
     requires few { length args.now ≤ 8 }
     requires small { total_size args.now ≤ array_limit }

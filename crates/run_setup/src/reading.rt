@@ -73,7 +73,14 @@ fn read_each<F: Files>(
     let mut args = List::new(alloc);
     for k in 0..kinds.len() {
         let number = k as u32;
-        match read_one(alloc, kinds[k], words[k].as_str(), first + number, number, files) {
+        match read_one(
+            alloc,
+            kinds[k],
+            words[k].as_str(),
+            first + number,
+            number,
+            files,
+        ) {
             Ok(arg) => args.push(arg)?,
             Err(fault) => return Err(fault),
         }

@@ -54,7 +54,9 @@ fn is_one(args: &[Arg], wanted: &Wanted) -> bool {
 
 fn is_first(refusal: &Refusal) -> bool {
     match refusal {
-        Refusal::BadArguments { which: ArgFault::Param(k) } => *k == 0,
+        Refusal::BadArguments {
+            which: ArgFault::Param(k),
+        } => *k == 0,
         _ => false,
     }
 }
@@ -75,7 +77,11 @@ fn words_as_arguments(rt: HostRuntime) -> Result<(), Fail> {
         (Kind::Bytes(Some(3)), "hex:0aF1", Wanted::Refused),
         (Kind::Bytes(None), "hex:0", Wanted::Refused),
         (Kind::Bytes(None), "hex:0g", Wanted::Refused),
-        (Kind::Words(None), "hex:0100000200000080", Wanted::Words(&[0x0200_0001, 0x8000_0000])),
+        (
+            Kind::Words(None),
+            "hex:0100000200000080",
+            Wanted::Words(&[0x0200_0001, 0x8000_0000]),
+        ),
         (Kind::Words(None), "hex:010000", Wanted::Refused),
         (Kind::Words(Some(1)), "data", Wanted::Words(&[0x0200_0001])),
         (Kind::Bytes(None), "other", Wanted::ReadFault),
@@ -97,6 +103,10 @@ fn results_as_lines(rt: HostRuntime) -> Result<(), Fail> {
     results.push(Arg::Bytes(Text::from_slice(alloc, &[0x0a, 0xf1])?))?;
     results.push(Arg::Words(words))?;
     let printed = print_results(alloc, &results).ok().ok_or("memory")?;
-    assert_eq!(rt; printed.as_slice(), b"800000af\n0af1\n01020304\n", "the lines");
+    assert_eq!(rt;
+        printed.as_slice(),
+        b"800000af\n0af1\n01020304\n",
+        "the lines"
+    );
     Ok(())
 }

@@ -105,7 +105,7 @@ fn results_as_lines(rt: HostRuntime) -> Result<(), Fail> {
     let printed = print_results(alloc, &results).ok().ok_or("memory")?;
     assert_eq!(rt;
         printed.as_slice(),
-        b"800000af\n0af1\n01020304\n",
+        b"800000af\n0af1\n01020304\n".as_slice(),
         "the lines"
     );
     Ok(())

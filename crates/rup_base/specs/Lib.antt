@@ -1,5 +1,6 @@
 pub mod Answers
 pub mod Gather
 pub mod Name
+pub mod RefusalLine
 pub mod Word
 pub mod formers

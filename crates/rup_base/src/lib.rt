@@ -6,6 +6,7 @@
 mod arg;
 mod boxed;
 mod fail;
+mod line;
 mod list;
 mod name;
 mod no_memory;
@@ -16,6 +17,7 @@ mod word;
 pub use arg::{Arg, Args, Kind, Place, Results};
 pub use boxed::Box;
 pub use fail::Fail;
+pub use line::refusal_line;
 pub use list::List;
 pub use name::Name;
 pub use no_memory::NoMemory;

@@ -153,3 +153,77 @@ fn refusals_are_sentences(rt: HostRuntime) -> Result<(), Failed> {
     }
     Ok(())
 }
+
+#[test]
+fn refusals_print_a_line(rt: HostRuntime) -> Result<(), Failed> {
+    let spelling = Text::from_slice(rt.alloc(), b"(get a i)")?;
+    let rows: [(Refusal, &[u8]); 10] = [
+        (
+            Refusal::NotText {
+                word: 1,
+                at: 6,
+                why: TextWhy::Unclosed,
+            },
+            b"refused 1 NotText 1 6 unclosed\n",
+        ),
+        (
+            Refusal::OverLimit {
+                which: Limit::Statements,
+                count: 2001,
+            },
+            b"refused 3 OverLimit statements 2001\n",
+        ),
+        (
+            Refusal::IllTyped {
+                place: TypePlace::Return(0),
+                why: TypeWhy::Unknown,
+            },
+            b"refused 4 IllTyped return 0 unknown\n",
+        ),
+        (
+            Refusal::BadArguments {
+                which: ArgFault::Require(0),
+            },
+            b"refused 5 BadArguments require 0\n",
+        ),
+        (Refusal::NotJson, b"refused 6 NotJson\n"),
+        (
+            Refusal::NotDerivation { node: None },
+            b"refused 7 NotDerivation header\n",
+        ),
+        (
+            Refusal::NodeCount {
+                listed: 5,
+                needed: 4,
+            },
+            b"refused 8 NodeCount 5 4\n",
+        ),
+        (
+            Refusal::OverBound {
+                node: 0,
+                degree: 3,
+                coefficient: 47,
+            },
+            b"refused 12 OverBound 0 3 47\n",
+        ),
+        (
+            Refusal::Stuck {
+                stmt: 0,
+                goal: Goal::Expr(spelling),
+            },
+            b"refused 14 Stuck 0 (get a i)\n",
+        ),
+        (
+            Refusal::TooLong {
+                word: 1,
+                limit: 1_048_576,
+            },
+            b"refused 19 TooLong 1 1048576\n",
+        ),
+    ];
+    for (refusal, want) in rows {
+        let line = refusal_line(rt.alloc(), &refusal)?;
+        assert_eq!(rt; line.as_slice(), want, "a printed line");
+    }
+    Ok(())
+}

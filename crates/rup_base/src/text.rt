@@ -1,5 +1,6 @@
 //! A growable text of bytes that contracts see as the list of its bytes.
 ghost use Rattle.std.specs.Prelude.{◌≡◌, [], ◌∷◌, ◌++◌, ◌↔◌, length, IsTrue, IfOk, OnOk, OnErr};
+ghost use Rattle.std.specs.Fmt.{decimal};
 
 use crate::no_memory::NoMemory;
 use std::alloc::Global;
@@ -85,6 +86,15 @@ impl Text {
     {
         self.bytes.extend_from_slice(bytes)?;
         Ok(())
+    }
+
+    /// Puts the number behind the last byte, in decimal without leading zeros.
+    pub fn push_number(&mut self, alloc: Global, number: u128) -> Result<(), NoMemory>
+        ensures appended { OnOk result (self.new ≡ self.old ++ decimal number) }
+        ensures no_memory { OnErr result (self.new ≡ self.old) }
+    {
+        let digits = format!(in alloc; "{number}")?;
+        self.extend_from_slice(digits.as_bytes())
     }
 }
 

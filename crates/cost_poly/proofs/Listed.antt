@@ -1,13 +1,13 @@
 -- Products by their places, and the polynomial of coefficients.
-use Rattle.std.proofs.Common.{length, set, slice_index_or, get_or-set_other, get_or-set_same, ◌≡◌, ◌≢◌, ℕ, zero, suc, ◌+◌, ◌-◌, ◌*◌, ◌/◌, ◌^◌, ◌<◌, ◌≤◌, max, Bool, true, false, ◌&&◌, if◌then◌else◌, List, [], ◌∷◌, ◌++◌, Option, Some, None, nat_eq, nat_lt, nat_le, refl, sym, ap, ◌∙◌, arith}
-use Rattle.std.specs.Prelude.{Result, Ok, Err, IfOk}
+use Rattle.std.proofs.Common.{length, set, slice_index_or, get_or-set_other, get_or-set_same, ◌≡◌, ◌≢◌, ℕ, zero, suc, ◌+◌, ◌^◌, ◌<◌, ◌≤◌, max, Bool, true, false, ◌&&◌, if◌then◌else◌, List, [], ◌∷◌, ◌++◌, Option, Some, None, nat_eq, nat_lt, nat_le, refl, sym, ap, ◌∙◌, arith}
+use Rattle.std.specs.Prelude.{Result, Err, IfOk}
 use Rattle.std.specs.List.{AllByRecursion}
 use Rattle.side_certs.specs.LinearForm.{LinearForm}
 use Rattle.std.proofs.lemmas.Bool.{eqb-true, leb-true, le-leb, ltb-true, lt-ltb}
 use Rattle.std.proofs.lemmas.Bool.Decides.{nat_tests}
 use Rattle.cost_poly.specs.declared.term.Term.{Term}
 use Rattle.cost_poly.specs.declared.wide.Wide.{Wide}
-use Rattle.cost_poly.specs.Polynomial.{place_of, AreSymbols, are_symbols, make, goes_behind, can_follow, same_symbol, next_place, symbols_at, listed, greatest, degree_of, term_degree, degree, within, greatest_coefficient, product_count, coefficient, IsSmall, product, greatest_cubic, scaled}
+use Rattle.cost_poly.specs.Polynomial.{place_of, AreSymbols, are_symbols, make, can_follow, same_symbol, next_place, symbols_at, listed, greatest, term_degree, within, greatest_coefficient, coefficient, IsSmall, product, greatest_cubic, scaled}
 use Rattle.cost_poly.proofs.Places.{and_parts, next_append}
 
 both : {a b : Bool} → a ≡ true → b ≡ true → (a && b) ≡ true

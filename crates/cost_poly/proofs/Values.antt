@@ -1,17 +1,17 @@
 -- The values of sums and greater ones.
-use Rattle.std.proofs.Common.{◌≡◌, ◌≢◌, ℕ, zero, suc, ◌+◌, ◌-◌, ◌*◌, ◌^◌, ◌<◌, ◌≤◌, max, Bool, true, false, ◌&&◌, if◌then◌else◌, List, [], ◌∷◌, ◌++◌, Option, Some, None, nat_eq, nat_lt, nat_le, refl, sym, ap, ◌∙◌, arith, mul-le-mul}
-use Rattle.std.proofs.lemmas.Bool.{eqb-true, leb-true, ltb-true}
+use Rattle.std.proofs.Common.{◌≡◌, ℕ, zero, suc, ◌+◌, ◌*◌, ◌<◌, ◌≤◌, Bool, true, false, ◌&&◌, List, [], ◌∷◌, ◌++◌, Option, Some, None, nat_eq, refl, sym, ap, ◌∙◌, arith, mul-le-mul}
+use Rattle.std.proofs.lemmas.Bool.{eqb-true}
 use Rattle.std.proofs.lemmas.Bool.Decides.{nat_tests}
 use Rattle.cost_poly.specs.declared.term.Term.{Term}
-use Rattle.cost_poly.specs.Polynomial.{place_of, AreSymbols, BoundFrom, make, same_symbol, value_of, at, coefficient, coefficient_at, symbols_at, listed, sum, greater}
+use Rattle.cost_poly.specs.Polynomial.{place_of, BoundFrom, make, same_symbol, value_of, at, coefficient, coefficient_at, symbols_at, listed, sum, greater}
 use Rattle.cost_poly.proofs.Places.{and_parts, place_below}
 use Rattle.cost_poly.proofs.Listed.{all_below, one_below, symbols_same, symbols_found, are_of}
 
-weight : List ℕ → ℕ → ℕ
+unfoldable pub weight : List ℕ → ℕ → ℕ
 weight values place = value_of values (symbols_at place).0 * value_of values (symbols_at place).1
 
 -- the value of the first coefficients
-pub total : List ℕ → (ℕ → ℕ) → ℕ → ℕ
+unfoldable pub total : List ℕ → (ℕ → ℕ) → ℕ → ℕ
 total values numbers zero = 0
 total values numbers (suc place) = total values numbers place + numbers place * weight values place
 

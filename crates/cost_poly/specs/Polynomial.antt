@@ -1,5 +1,6 @@
 -- Polynomials of degree 2 over eight symbols, whose coefficients are whole numbers: bounds of the steps of a call.
 use Rattle.std.specs.Prelude.{ℕ, zero, suc, max, map, Result, Ok, Err, ℤ, pos, nat_abs, ◌+◌, ◌-◌, ◌*◌, ◌/◌, ◌^◌, ◌<◌, ◌≤◌, Bool, true, false, ◌&&◌, List, [], ◌∷◌, ◌++◌, Option, Some, None, nat_eq, nat_lt, nat_le, slice_index_or, if◌then◌else◌, ⊤}
+use Rattle.std.specs.Int.Signed.{le_z}
 use Rattle.side_certs.specs.LinearForm.{LinearForm}
 use Rattle.side_certs.specs.LinearForm as linear
 use Rattle.cost_poly.specs.declared.term.Term.{Term}
@@ -185,3 +186,11 @@ abbrev pub scaled : List Term → LinearForm → Result (List Term) Wide
 scaled p f =
     if nat_eq (greatest_cubic p f) 0 then within (product p f)
     else Err (record { degree = 3; coefficient = max (greatest_cubic p f) (greatest (product p f) product_count) })
+
+-- no number of the form is negative, and its symbols are below the limit
+abbrev pub are_entry_terms : List (ℕ × ℤ) → Bool
+are_entry_terms [] = true
+are_entry_terms (t ∷ ts) = nat_lt t.0 symbol_limit && le_z (pos 0) t.1 && are_entry_terms ts
+
+abbrev pub is_entry_form : LinearForm → Bool
+is_entry_form f = le_z (pos 0) f.constant && are_entry_terms f.terms

@@ -1,5 +1,6 @@
 //! Sums, products and greater ones of polynomials.
-ghost use Rattle.std.specs.Prelude.{◌≡◌, ◌≤◌, ◌<◌, ◌+◌, ◌*◌, ◌^◌, ℕ, List, slice_index_or, IfOk};
+ghost use Rattle.std.specs.Prelude.{◌≡◌, ◌≤◌, ◌<◌, ◌+◌, ◌*◌, ◌*ℤ◌, ◌^◌, ℕ, List, pos, true, slice_index_or, IfOk};
+ghost use Rattle.side_certs.specs.LinearForm as linear;
 ghost use Rattle.cost_poly.specs.Polynomial as polynomial;
 
 use crate::coefficients::{PRODUCT_COUNT, greatest, larger, listed, symbols, within};
@@ -32,8 +33,10 @@ impl Poly {
     /// passes a limit. Of any other form the magnitudes of the constant and of the coefficients of the symbols below 8
     /// are taken.
     pub fn scale(&self, t: &Form) -> Result<Poly, Wide>
-        ensures { result ≡ polynomial.scaled self.now t.now }
+        ensures product { result ≡ polynomial.scaled self.now t.now }
+        ensures value { IfOk result (λ product. polynomial.is_entry_form t.now ≡ true → (values : List ℕ) → pos (polynomial.at values product) ≡ pos (polynomial.at values self.now) *ℤ linear.value_at (λ s. slice_index_or values s 0) t.now) }
     {
+        self.is_bounded();
         let numbers = self.products(t);
         let cubic = self.greatest_cubic(t);
         if cubic == 0 {

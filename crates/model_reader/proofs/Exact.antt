@@ -1,5 +1,5 @@
 -- The reader's definition and the relation between texts and models.
-use Rattle.std.proofs.Common.{◌≡◌, subst, refl, sym, ◌∙◌, ap, ℕ, ◌≤◌, nat_le, Bool, true, false, List, length, arith, Option, Some, None, Ok, IfOk, Result, Err, if◌then◌else◌}
+use Rattle.std.proofs.Common.{◌≡◌, subst, refl, sym, ◌∙◌, ap, ℕ, ◌+◌, ◌≤◌, nat_le, Bool, true, false, List, length, arith, Option, Some, None, Ok, IfOk, Result, Err, if◌then◌else◌}
 use Rattle.std.proofs.lemmas.Bool.Decides.{nat_tests}
 use Rattle.rup_base.specs.Answers.{Answers, and_then}
 use Rattle.rup_base.specs.declared.fail.Fail.{Fail}
@@ -7,12 +7,13 @@ use Rattle.rup_base.specs.declared.refusal.Refusal.TheVariants.{OverLimit}
 use Rattle.rup_base.specs.declared.refusal.Limit.{Limit}
 use Rattle.rup_base.specs.declared.refusal.TextWhy.{TextWhy}
 use Rattle.sx_text.specs.declared.tree.Sx.{Sx}
-use Rattle.sx_text.specs.Forms.{read, judged, fault, rest_of}
+use Rattle.sx_text.specs.Forms.{place, read, judged, fault, rest_of}
 use Rattle.model_syntax.specs.declared.program.Model.{Model}
 use Rattle.model_syntax.specs.Limits.{Within, over_limit, statements, depth, blocks, tables}
+use Rattle.model_syntax.specs.Spelling.{Spellable}
 use Rattle.model_reader.specs.Parts.{Answer}
 use Rattle.model_reader.specs.Reading.{Reads, read_model, model_of_forms, limited}
-use Rattle.model_reader.proofs.Round.{within_limits}
+use Rattle.model_reader.proofs.Tables.{whole_gives}
 
 abbrev answer_of : Model → Answer Model
 answer_of m = Ok m
@@ -59,6 +60,21 @@ none_within m h =
       small_tables = under (tables m) 65536 p.3;
     }
 
+passes : (n most : ℕ) → n ≤ most → nat_le n most ≡ true
+passes n most h = grind (arith, nat_tests)
+
+none_over : (m : Model) → Within m → over_limit m ≡ None
+none_over m w =
+    rw (
+      passes (statements m) 2000 w.few_statements,
+      passes (depth m) 64 w.shallow_expressions,
+      passes (blocks m) 16 w.shallow_blocks,
+      passes (tables m) 65536 w.small_tables,
+    ) refl
+
+pub within_limits : (m : Model) → Within m → limited m ≡ Ok m
+within_limits m w = rw (none_over m w, limited) refl
+
 -- a model that is read: the forms of its bytes, and their one model, which is within the limits
 read_parts : (word : ℕ) (bytes : List ℕ) (m : Model) → read_model word bytes ≡ Ok m → Reads bytes m × Within m
 read_parts word bytes m h =
@@ -87,3 +103,11 @@ pub answered_all : (word : ℕ) (bytes : List ℕ) (r : Result Model Fail) (m : 
 answered_all word bytes r m reads within h =
     let P : Answer Model → Type 0 = λ a. Answers r a in
     subst P (is_read word bytes m reads within) h
+
+-- a text of a model spells its tables
+text_spells : (bytes : List ℕ) (m : Model) → Reads bytes m → Spellable m
+text_spells bytes m (forms, r, s) = whole_gives (place 0 (length bytes + 1)) forms m s
+
+pub answered_spellable : (word : ℕ) (bytes : List ℕ) (r : Result Model Fail) → Answers r (read_model word bytes) → IfOk r (λ m. Spellable m)
+answered_spellable word bytes (Ok m) h = let p = read_parts word bytes m h in text_spells bytes m p.0
+answered_spellable word bytes (Err e) h = tt

@@ -1,12 +1,5 @@
-pub mod Atomic
-pub mod Backs
-pub mod Decimal
 pub mod Exact
-pub mod ExprBack
-pub mod FactBack
-pub mod ModelBack
 pub mod Nth
 pub mod Numerals
-pub mod Round
-pub mod Spelled
-pub mod StmtBack
+pub mod Readings
+pub mod Tables

@@ -1,10 +1,8 @@
 pub mod Expressions
 pub mod Facts
-pub mod Formed
 pub mod Models
 pub mod Numbers
 pub mod Parts
-pub mod Printing
 pub mod Reading
 pub mod Statements
 pub mod Words

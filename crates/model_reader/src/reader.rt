@@ -3,6 +3,7 @@ ghost use Rattle.std.specs.Prelude.{◌≡◌, ◌≤◌, ◌^◌, length, Ok, I
 ghost use Rattle.rup_base.specs.Answers.{Answers};
 ghost use Rattle.model_syntax.specs.declared.program.Model as program;
 ghost use Rattle.model_syntax.specs.Limits.{Within};
+ghost use Rattle.model_syntax.specs.Spelling.{Spellable};
 ghost use Rattle.model_reader.specs.Reading as spec;
 
 use crate::models::whole;
@@ -21,6 +22,7 @@ pub fn read_model(alloc: Global, word: u32, bytes: &[u8]) -> Result<Model, Fail>
     requires { length bytes.now ≤ 2 ^ 24 }
     ensures exact { Answers result (spec.read_model word bytes.now) }
     ensures only { IfOk result (λ m. spec.Reads bytes.now m × Within m) }
+    ensures spellable { IfOk result (λ m. Spellable m) }
     ensures all { (m : program.Model) → spec.Reads bytes.now m → Within m → Answers result (Ok m) }
 {
     model_of_text(alloc, word, bytes)

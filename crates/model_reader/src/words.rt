@@ -6,7 +6,7 @@ ghost use Rattle.model_reader.specs.Words as spec;
 use model_syntax::{Cmp, Op, Scalar};
 
 /// What begins an expression that is a list.
-#[derive(Clone, Copy, Debug, PartialEq, Eq)]
+#[derive(Clone, Copy)]
 pub enum ExprWord {
     Bin(Op),
     Test(Cmp),
@@ -21,7 +21,7 @@ pub enum ExprWord {
 }
 
 /// What begins a statement.
-#[derive(Clone, Copy, Debug, PartialEq, Eq)]
+#[derive(Clone, Copy)]
 pub enum StmtWord {
     Let,
     Put,

@@ -1,0 +1,9 @@
+pub mod Atomic
+pub mod Backs
+pub mod Decimal
+pub mod ExprBack
+pub mod FactBack
+pub mod ModelBack
+pub mod Round
+pub mod Spelled
+pub mod StmtBack

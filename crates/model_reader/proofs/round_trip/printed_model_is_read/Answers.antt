@@ -1,5 +1,0 @@
-use Rattle.model_reader.proofs.Round.{printed_model}
-use Rattle.model_reader.proofs.round_trip.printed_model_is_read.Goals as goal
-
-pub returns : goal.returns
-returns c = printed_model

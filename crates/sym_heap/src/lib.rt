@@ -1,0 +1,16 @@
+//! Contexts of derivations: what is known at a point of a model. That is, which local has which scalar and the form of
+//! its number, where each array stands, which forms are at least 0 and how great each symbol is at most.
+#![tactic(auto)]
+
+mod context;
+mod laws;
+mod parts;
+mod places;
+mod sides;
+
+pub use context::Ctx;
+pub use laws::start_fits;
+pub use parts::{Clause, Held};
+
+#[cfg(test)]
+mod tests;

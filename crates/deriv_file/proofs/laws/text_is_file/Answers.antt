@@ -1,0 +1,5 @@
+use Rattle.deriv_file.proofs.FileReread as lemma
+use Rattle.deriv_file.proofs.laws.text_is_file.Goals as goal
+
+pub returns : goal.returns
+returns c = lemma.text_is_file

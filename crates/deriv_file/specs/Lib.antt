@@ -1,0 +1,10 @@
+pub mod CertificateList
+pub mod File
+pub mod FileText
+pub mod Forest
+pub mod Limits
+pub mod Node
+pub mod NodeList
+pub mod Numbers
+pub mod Places
+pub mod Ranges

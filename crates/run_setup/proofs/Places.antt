@@ -1,6 +1,6 @@
 -- Where things stand: regions one after another are disjoint, and they end below 2^32.
-use Rattle.std.proofs.Common.{◌≡◌, ℕ, zero, suc, ◌+◌, ◌-◌, ◌*◌, ◌%◌, ◌^◌, ◌<◌, ◌≤◌, List, [], ◌∷◌, ◌++◌, length, replicate, Option, Some, None, ℤ, refl, sym, ap, ◌∙◌, length-append, arith}
-use Rattle.std.specs.Prelude.{All, sum_by}
+use Rattle.std.proofs.Common.{◌≡◌, ℕ, zero, suc, ◌+◌, ◌-◌, ◌*◌, ◌%◌, ◌^◌, ◌<◌, ◌≤◌, Bool, true, false, nat_eq, nat_le, slice_get, get_or, take, Result, Ok, Err, List, [], ◌∷◌, ◌++◌, length, replicate, Option, Some, None, ℤ, refl, sym, ap, subst, ◌∙◌, length-append, arith}
+use Rattle.std.specs.Prelude.{All, sum_by, IfOk}
 use Rattle.std.specs.List.{flat_map, AllByRecursion}
 use Rattle.std.proofs.lemmas.List.Elements.{All-nil, All-cons}
 use Rattle.std.proofs.lemmas.List.{length-replicate, append-nil}
@@ -14,9 +14,18 @@ use Rattle.cost_poly.specs.declared.term.Term.{Term}
 use Rattle.image_layout.specs.declared.image.Image.{Image}
 use Rattle.image_layout.specs.Spelling as image
 use Rattle.image_layout.proofs.Limits.{params_few, terms_few, rets_few, bound_few}
+use Rattle.std.proofs.lemmas.Bool.{leb-true, eqb-true}
+use Rattle.std.proofs.lemmas.Option.{slice_get_within, slice_get_read, get_or_from_slice_get}
+use Rattle.rup_base.specs.Answers.{and_then}
+use Rattle.rup_base.specs.declared.refusal.ArgFault.TheVariants.{Count}
+use Rattle.rup_base.specs.declared.refusal.Refusal.{Refusal}
+use Rattle.rup_base.specs.declared.refusal.Refusal.TheVariants.{BadArguments, ArraysTooLarge}
+use Rattle.image_layout.specs.Reading.{scalars}
 use Rattle.rv_memory.specs.Bytes.{IsApart, AreDisjoint}
+use Rattle.rv_machine.specs.State.{Bytes}
 use Rattle.run_setup.specs.Arguments.{bytes_of_words, array_limit}
-use Rattle.run_setup.specs.Judging.{size_of, total_size, capped, length_value, symbol_values}
+use Rattle.run_setup.specs.Judging.{size_of, total_size, capped, length_value, symbol_values, judged, judged_count, judged_kinds, judged_size}
+use Rattle.run_setup.specs.Results.{array_at}
 use Rattle.run_setup.specs.Loading.{base, aligned, end_after, end_of, array_region, array_regions, registers_with, argument_values, image_end, stack_start, regions}
 
 -- Regions that rise from an address on.
@@ -236,3 +245,70 @@ symbols_done (k ∷ kinds) [] values whole none so_far = sym (append-nil values)
 pub total_done : (total : ℕ) (left args : List Arg) → length left < 1 → total < 2 ^ 64 → capped (total + total_size left) ≡ capped (total_size args) → total ≡ capped (total_size args)
 total_done total (a ∷ left) args none small so_far = absurd (omega (arith, none))
 total_done total [] args none small so_far = let same : total ≡ capped (total + 0) = omega (arith, small) in same ∙ so_far
+
+-- the arguments before one, and it
+pub total_part : (args : List Arg) (p : ℕ) (a : Arg) → slice_get args p ≡ Some a → total_size (take p args) + size_of a ≤ total_size args
+total_part [] p a e = absurd (let bad = slice_get_within [] p a e in omega (arith, bad))
+total_part (b ∷ args) zero a e = let same : b ≡ a = get_or_from_slice_get (b ∷ args) 0 a a e in rw same (omega arith)
+total_part (b ∷ args) (suc p) a e = omega (arith, total_part args p a e)
+
+pub scalars_few : (kinds : List Kind) (left : ℕ) (seen : List ℕ) (rs : List (Option ℕ)) → image.ResultsFit kinds left seen rs → scalars rs ≤ left
+scalars_few kinds left seen [] limits = omega arith
+scalars_few kinds zero seen (None ∷ rs) limits = absurd limits
+scalars_few kinds (suc left) seen (None ∷ rs) limits = let rest : scalars rs ≤ left = scalars_few kinds left seen rs limits in omega (arith, rest)
+scalars_few kinds left seen (Some p ∷ rs) limits = scalars_few kinds left (p ∷ seen) rs limits.2
+
+pub and_ok : {A B : Type 0} (r : Result A Refusal) (next : A → Result B Refusal) (b : B) → and_then r next ≡ Ok b → (a : A) × (r ≡ Ok a) × (next a ≡ Ok b)
+and_ok (Ok a) next b e = (a, refl, e)
+and_ok (Err refusal) next b e = absurd (cc)
+
+pub count_ok : (kinds : List Kind) (args : List Arg) (u : Unit {0}) → judged_count kinds args ≡ Ok u → length args ≡ length kinds
+count_ok kinds args u e = by_test (nat_eq (length args) (length kinds)) refl
+  where
+    by_test : (same : Bool) → nat_eq (length args) (length kinds) ≡ same → length args ≡ length kinds
+    by_test true h = eqb-true (length args) (length kinds) h
+    by_test false h = absurd (let bad : judged_count kinds args ≡ Err (BadArguments Count) = rw h refl in cc)
+
+pub size_ok : (args : List Arg) (u : Unit {0}) → judged_size args ≡ Ok u → total_size args ≤ array_limit
+size_ok args u e = by_test (nat_le (total_size args) array_limit) refl
+  where
+    by_test : (small : Bool) → nat_le (total_size args) array_limit ≡ small → total_size args ≤ array_limit
+    by_test true h = leb-true _ _ h
+    by_test false h = absurd (let bad : judged_size args ≡ Err (ArraysTooLarge (capped (total_size args))) = rw h refl in cc)
+
+pub judged_small : (i : Image) (args : List Arg) → judged i args ≡ Ok tt → (length args ≡ length i.params) × (total_size args ≤ array_limit)
+judged_small i args e =
+    let count = and_ok (judged_count i.params args) _ tt e in
+    let kinds = and_ok (judged_kinds 0 i.params args) _ tt count.2 in
+    let size = and_ok (judged_size args) _ tt kinds.2 in
+    (count_ok i.params args count.0 count.1, size_ok args size.0 size.1)
+
+pub total_parts : (args : List Arg) (p : ℕ) (a : Arg) → p < length args → a ≡ get_or args p a → (slice_get args p ≡ Some a) × (total_size (take p args) + size_of a ≤ total_size args)
+total_parts args p a within is =
+    let there : slice_get args p ≡ Some a = slice_get_read args (length args) p a refl within is in
+    (there, total_part args p a there)
+
+pub total_before : (args : List Arg) (p : ℕ) → total_size (take p args) ≤ total_size args
+total_before [] zero = omega arith
+total_before [] (suc p) = omega arith
+total_before (a ∷ args) zero = omega arith
+total_before (a ∷ args) (suc p) = omega (arith, total_before args p)
+
+pub size_at : (args : List Arg) (p : ℕ) (d : Arg) → p < length args → size_of (get_or args p d) ≤ total_size args
+size_at [] p d within = absurd (omega (arith, within))
+size_at (a ∷ args) zero d within = omega arith
+size_at (a ∷ args) (suc p) d within = omega (arith, size_at args p d (omega (arith, within)))
+
+pub few_before : (args : List Arg) (p : ℕ) → length (take p args) ≤ length args
+few_before [] zero = omega arith
+few_before [] (suc p) = omega arith
+few_before (a ∷ args) zero = omega arith
+few_before (a ∷ args) (suc p) = omega (arith, few_before args p)
+
+-- what was read at an address is the array of an argument there
+pub array_is_at : {E : Type 0} (mem : Bytes) (end place : ℕ) (args : List Arg) (p : ℕ) (a : Arg) (result : Result Arg E)
+    → slice_get args p ≡ Some a → place ≡ aligned end
+    → IfOk result (λ array. array ≡ array_at mem place (Some a)) → IfOk result (λ array. array ≡ array_at mem (aligned end) (slice_get args p))
+array_is_at mem end place args p a result there here read =
+    let at_end : IfOk result (λ array. array ≡ array_at mem (aligned end) (Some a)) = subst (λ (at : ℕ). IfOk result (λ array. array ≡ array_at mem at (Some a))) here read in
+    rw there at_end

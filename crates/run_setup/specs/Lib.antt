@@ -4,3 +4,6 @@ pub mod Reading
 pub mod Judging
 pub mod Loading
 pub mod Results
+pub mod Ready
+pub mod Good
+pub mod Laws

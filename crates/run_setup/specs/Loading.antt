@@ -1,6 +1,6 @@
 -- The state that a run starts from: the image at 0x00010000, then the arrays in order, each at the next multiple of
 -- 16, then the stack bytes from the next multiple of 16.
-use Rattle.std.specs.Prelude.{◌≡◌, ℕ, ◌+◌, ◌*◌, List, [], ◌∷◌, ◌++◌, length, replicate, Result, Ok, Err, slice_set}
+use Rattle.std.specs.Prelude.{◌≡◌, ℕ, ◌+◌, ◌*◌, ◌^◌, ◌<◌, slice_index_or, List, [], ◌∷◌, ◌++◌, length, replicate, Result, Ok, Err, slice_set}
 use Rattle.std.specs.Int.{next_multiple_of}
 use Rattle.rup_base.specs.declared.arg.Kind.{Kind}
 use Rattle.rup_base.specs.declared.arg.Arg.{Arg}
@@ -68,6 +68,9 @@ image_end i = base + length (spelling i)
 
 abbrev pub stack_start : Image → List Arg → ℕ
 stack_start i args = aligned (end_of (image_end i) args)
+
+abbrev pub AreBytes : List ℕ → Type 0
+AreBytes bytes = (k : ℕ) → slice_index_or bytes k 0 < 2 ^ 8
 
 unfoldable pub regions : Image → List Arg → List (ℕ × List ℕ)
 regions i args =

@@ -1,5 +1,5 @@
 -- The results of a run: those that the machine has at its end, and the lines that print them.
-use Rattle.std.specs.Prelude.{ℕ, zero, suc, ◌+◌, ◌*◌, ◌^◌, ◌≤◌, ◌<◌, All, List, [], ◌∷◌, ◌++◌, length, take, Option, Some, None, IsSome, slice_get}
+use Rattle.std.specs.Prelude.{ℕ, zero, suc, ◌+◌, ◌*◌, List, [], ◌∷◌, ◌++◌, length, take, Option, Some, None, slice_get}
 use Rattle.std.specs.List.{flat_map}
 use Rattle.std.specs.FinMap.{get}
 use Rattle.rup_base.specs.declared.arg.Arg.{Arg}
@@ -8,18 +8,9 @@ use Rattle.image_layout.specs.declared.image.Image.{Image}
 use Rattle.rv_machine.specs.State.{Bytes, State, register}
 use Rattle.run_setup.specs.Digits.{two_digits, eight_digits}
 use Rattle.run_setup.specs.Arguments.{bytes_of_words, words_of_bytes}
-use Rattle.run_setup.specs.Loading.{aligned, end_of, image_end, regions}
+use Rattle.run_setup.specs.Loading.{aligned, end_of, image_end}
 
--- the addresses of a region end at or below 2^32 and are in the memory
-pub record HasRegion (mem : Bytes) (r : ℕ × List ℕ) : Type 0 where
-  pub ends : r.0 + length r.1 ≤ 2 ^ 32
-  pub inside : (a : ℕ) → r.0 ≤ a → a < r.0 + length r.1 → IsSome (get mem a)
-
--- the memory has the addresses of the state that a run with these arguments starts from
-abbrev pub HasAddresses : Bytes → Image → List Arg → Type 0
-HasAddresses mem i args = All (HasRegion mem) (regions i args)
-
--- the byte at an address, which is one of the memory's
+-- the byte at an address; outside the memory there is none, and it counts as 0
 abbrev pub byte_of : Option ℕ → ℕ
 byte_of None = 0
 byte_of (Some b) = b

@@ -104,7 +104,9 @@ fn total_size(args: &[Arg]) -> u64
     total
 }
 
-fn judge_size(args: &[Arg]) -> Result<(), Fail>
+/// The arrays have at most 67,108,864 bytes in sum, or are refused as `ArraysTooLarge` with that sum, or with the
+/// greatest number of 64 bits where it is greater.
+pub fn judge_size(args: &[Arg]) -> Result<(), Fail>
     ensures answer { Answers result (spec.judged_size args.now) }
     ensures small { OnOk result (spec.total_size args.now ≤ array_limit) }
 {
@@ -138,8 +140,9 @@ fn put_symbols(values: &mut List<u32>, kind: Kind, arg: &Arg) -> Result<(), NoMe
     }
 }
 
-/// The values of the entry symbols.
-fn symbol_values(alloc: Global, kinds: &[Kind], args: &[Arg]) -> Result<List<u32>, NoMemory>
+/// The values of the entry symbols, which stand for words, bytes and named lengths in the order of the parameters. An
+/// image's bound and requirements are over them.
+pub fn symbol_values(alloc: Global, kinds: &[Kind], args: &[Arg]) -> Result<List<u32>, NoMemory>
     requires { spec.total_size args.now < 2 ^ 32 }
     ensures { IfOk result (λ values. values ≡ spec.symbol_values kinds.now args.now) }
 {

@@ -5,13 +5,17 @@
 mod arguments;
 mod digits;
 mod judging;
+mod laws;
 mod loading;
 mod reading;
 mod results;
 
-pub use loading::load;
+pub use digits::put_word;
+pub use judging::{judge_size, symbol_values};
+pub use laws::{good_is_served, judged_is_met, loaded_is_ready};
+pub use loading::{RETURN_ADDRESS, load};
 pub use reading::{ArgsFail, read_args};
-pub use results::print_results;
+pub use results::{print_results, read_results};
 
 #[cfg(test)]
 mod tests;

@@ -1,9 +1,13 @@
 //! The state that a run starts from.
-ghost use Rattle.std.specs.Prelude.{◌≡◌, ◌≤◌, ◌<◌, ◌+◌, ◌*◌, ◌^◌, ◌++◌, length, replicate, OnOk, IfOk};
+ghost use Rattle.std.specs.Prelude.{◌≡◌, ℕ, ◌≤◌, ◌<◌, ◌+◌, ◌*◌, ◌^◌, ◌++◌, Ok, Some, length, replicate, slice_index_or, OnOk, IfOk};
+ghost use Rattle.std.specs.List.{AllByRecursion};
+ghost use Rattle.std.specs.FinMap.{get};
+ghost use Rattle.rv_machine.specs.View.{state_of};
+ghost use Rattle.run_setup.specs.Ready.{IsMachine};
 ghost use Rattle.image_layout.specs.Spelling.{IsWithinLimits, spelling};
 ghost use Rattle.rv_memory.specs.Bytes.{bytes_of};
 ghost use Rattle.run_setup.specs.Arguments.{bytes_of_words, array_limit};
-ghost use Rattle.run_setup.specs.Judging.{size_of, total_size};
+ghost use Rattle.run_setup.specs.Judging.{judged, size_of, total_size};
 ghost use Rattle.run_setup.specs.Loading as spec;
 
 use crate::judging::{judge, put_length};
@@ -14,10 +18,10 @@ use rv_memory::Memory;
 use std::alloc::Global;
 
 /// The address of the image.
-const BASE: u32 = 0x1_0000;
+pub const BASE: u32 = 0x1_0000;
 
 /// The address to which the image returns, which is none of the memory's.
-const RETURN_ADDRESS: u32 = 0x1000;
+pub const RETURN_ADDRESS: u32 = 0x1000;
 
 /// The state from which `run` calls an image with arguments. The image stands at 0x00010000, then the arrays in order,
 /// each at the next multiple of 16, then the stack bytes, which are zeros, from the next multiple of 16. sp is their
@@ -27,7 +31,11 @@ const RETURN_ADDRESS: u32 = 0x1000;
 /// `require K`.
 pub fn load(alloc: Global, i: &Image, args: &Args) -> Result<Machine, Fail>
     requires { IsWithinLimits i.now }
-    ensures { spec.AnswersState result (spec.loaded i.now args.now) }
+    ensures state { spec.AnswersState result (spec.loaded i.now args.now) }
+    ensures judged { OnOk result (judged i.now args.now ≡ Ok tt) }
+    ensures starts { IfOk result (λ m. state_of m ≡ spec.start_state i.now args.now) }
+    ensures small { OnOk result (total_size args.now ≤ array_limit) }
+    ensures machine { IfOk result (λ m. IsMachine (state_of m)) }
 {
     let arguments = args.as_slice();
     judge(alloc, i, arguments)?;
@@ -42,13 +50,40 @@ fn start(alloc: Global, i: &Image, args: &[Arg]) -> Result<Machine, NoMemory>
     ensures regs { IfOk result (λ m. m.regs ≡ spec.registers i.now args.now) }
     ensures pc { IfOk result (λ m. m.pc ≡ spec.base + i.now.entry) }
     ensures mem { IfOk result (λ m. m.mem ≡ bytes_of (spec.regions i.now args.now)) }
+    ensures machine { IfOk result (λ m. IsMachine (state_of m)) }
 {
     let image = image_bytes(alloc, i)?;
     let image_end = BASE + image.len() as u32;
     let regs = registers(alloc, i, args, image_end)?;
     let mem = memory(alloc, i, args, image)?;
     let pc = place_of_entry(i);
+    are_words(&regs);
     Ok(Machine { regs, pc, mem })
+}
+
+/// The numbers are words, by their type.
+fn are_words(words: &[u32])
+    ensures { (k : ℕ) → slice_index_or words.now k 0 < 2 ^ 32 }
+{
+    let _ = words;
+}
+
+/// The numbers are bytes, by their type.
+fn are_bytes(bytes: &[u8])
+    ensures { spec.AreBytes bytes.now }
+{
+    let _ = bytes;
+}
+
+/// The regions hold bytes, by their type.
+fn hold_bytes(regions: &[(u32, Text)])
+    ensures { AllByRecursion (λ r. spec.AreBytes r.1) regions.now }
+{
+    let mut left = regions;
+    'each: while let [first, rest @ ..] = left {
+        are_bytes(first.1.as_slice());
+        left = rest;
+    }
 }
 
 /// The entry is an offset inside the image.
@@ -183,9 +218,11 @@ fn memory(alloc: Global, i: &Image, args: &[Arg], image: Text) -> Result<Memory,
     requires small { total_size args.now ≤ array_limit }
     requires image { image ≡ spelling i.now }
     requires near { length image ≤ 1600000 }
-    ensures { IfOk result (λ mem. mem ≡ bytes_of (spec.regions i.now args.now)) }
+    ensures mem { IfOk result (λ mem. mem ≡ bytes_of (spec.regions i.now args.now)) }
+    ensures bytes { IfOk result (λ mem. (address b : ℕ) → get mem address ≡ Some b → b < 2 ^ 8) }
 {
     let regions = regions(alloc, i, args, image)?;
+    hold_bytes(regions.as_slice());
     Memory::new(alloc, regions)
 }
 

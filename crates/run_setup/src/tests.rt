@@ -1,7 +1,11 @@
 //! Arguments from words, the state that a small image starts from, and printed results.
+ghost use Rattle.image_layout.specs.Spelling.{IsWithinLimits};
+
 use crate::*;
-use rup_base::{Arg, ArgFault, Kind, List, NoMemory, Refusal, Text};
+use image_layout::{Image, read_image};
+use rup_base::{Arg, ArgFault, Kind, List, NoMemory, Refusal, Results, Text};
 use rup_io::MemFiles;
+use rv_machine::End;
 use std::alloc::Global;
 use std::process::Abort;
 use std::test::*;
@@ -108,5 +112,107 @@ fn results_as_lines(rt: HostRuntime) -> Result<(), Fail> {
         b"800000af\n0af1\n01020304\n".as_slice(),
         "the lines"
     );
+    Ok(())
+}
+
+/// The image of a jump to itself at offset 64, without parameters, results and stack.
+const LOOP: [u32; 17] = [
+    0x3150_5552,
+    1,
+    0x44,
+    0x40,
+    4,
+    0,
+    0x40,
+    0,
+    0,
+    0,
+    0,
+    1,
+    0xffff_ffff,
+    0xffff_ffff,
+    10,
+    0,
+    0x6f,
+];
+
+/// The same at offset 80 with a scalar result.
+const LOOP_WITH_RESULT: [u32; 21] = [
+    0x3150_5552,
+    1,
+    0x54,
+    0x50,
+    4,
+    0,
+    0x50,
+    0,
+    0,
+    0,
+    1,
+    1,
+    0xffff_ffff,
+    0xffff_ffff,
+    0xffff_ffff,
+    10,
+    0,
+    0,
+    0,
+    0,
+    0x6f,
+];
+
+/// The results that a run of the image ends with if a0 is 7 then, where it starts and ends as it is to.
+fn results_at(
+    alloc: Global,
+    image: &Image,
+    pc: u32,
+    sp: u32,
+) -> Result<Option<Results>, rup_base::Fail>
+    requires { IsWithinLimits image.now }
+{
+    let args = List::new(alloc);
+    let mut machine = load(alloc, image, &args)?;
+    let starts = machine.pc == pc && machine.regs[1] == 0x1000 && machine.regs[2] == sp;
+    machine.regs[10] = 7;
+    let results = read_results(alloc, &machine, image, &args)?;
+    let end = machine.run(RETURN_ADDRESS, 10);
+    if starts && end == (End::OutOfSteps { steps: 10 }) {
+        Ok(Some(results))
+    } else {
+        Ok(None)
+    }
+}
+
+fn run_of(
+    alloc: Global,
+    words: &[u32],
+    pc: u32,
+    sp: u32,
+) -> Result<Option<Results>, rup_base::Fail> {
+    let mut bytes = Text::new(alloc);
+    for word in words {
+        bytes.extend_from_slice(&word.to_le_bytes())?;
+    }
+    let image = read_image(alloc, bytes.as_slice())?;
+    results_at(alloc, &image, pc, sp)
+}
+
+#[test]
+fn a_small_image_is_run(rt: HostRuntime) -> Result<(), Fail> {
+    let found = run_of(rt.alloc(), &LOOP, 0x1_0040, 0x1_0050)
+        .ok()
+        .ok_or("memory")?;
+    let results = found.ok_or("the start or the end")?;
+    assert_eq!(rt; results.len(), 0, "no results");
+    Ok(())
+}
+
+#[test]
+fn a_result_is_read(rt: HostRuntime) -> Result<(), Fail> {
+    let found = run_of(rt.alloc(), &LOOP_WITH_RESULT, 0x1_0050, 0x1_0060)
+        .ok()
+        .ok_or("memory")?;
+    let results = found.ok_or("the start or the end")?;
+    assert!(rt; is_one(results.as_slice(), &Wanted::Word(7)), "a0");
     Ok(())
 }

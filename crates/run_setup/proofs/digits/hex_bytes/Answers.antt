@@ -1,4 +1,4 @@
-use Rattle.std.proofs.Common.{◌≡◌, Some, get_or, arith, rules}
+use Rattle.std.proofs.Common.{◌≡◌, Some, get_or, rules}
 use Rattle.run_setup.specs.Digits as spec
 use Rattle.run_setup.proofs.Hex.{byte_more}
 use Rattle.run_setup.proofs.digits.hex_bytes.Goals as goal

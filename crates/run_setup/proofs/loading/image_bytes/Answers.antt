@@ -1,4 +1,3 @@
-use Rattle.std.proofs.Common.{arith}
 use Rattle.run_setup.proofs.Places.{image_small}
 use Rattle.run_setup.proofs.loading.image_bytes.Goals as goal
 

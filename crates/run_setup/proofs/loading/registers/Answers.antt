@@ -1,4 +1,4 @@
-use Rattle.std.proofs.Common.{◌≤◌, length, arith}
+use Rattle.std.proofs.Common.{arith}
 use Rattle.run_setup.proofs.Places.{values_few}
 use Rattle.run_setup.proofs.loading.registers.Goals as goal
 

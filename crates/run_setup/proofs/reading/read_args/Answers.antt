@@ -1,4 +1,4 @@
-use Rattle.std.proofs.Common.{◌≡◌, ◌∙◌, length, map, drop, string_bytes, arith}
+use Rattle.std.proofs.Common.{◌≡◌, length, map, drop, string_bytes, arith}
 use Rattle.run_setup.proofs.Given.{texts_from, count_from, all_from_each, cause_among}
 use Rattle.run_setup.proofs.reading.read_args.Goals as goal
 

@@ -1,0 +1,10 @@
+use Rattle.std.proofs.Common.{arith}
+use Rattle.run_setup.proofs.Places.{judged_small, params_most}
+use Rattle.run_setup.proofs.results.is_small.Goals as goal
+
+pub returns-clause-few : goal.returns-clause-few
+returns-clause-few c =
+    omega (arith, (judged_small c.args.i.now c.args.args.now c.requires.judged).0, params_most c.args.i.now c.requires.limits)
+
+pub returns-clause-small : goal.returns-clause-small
+returns-clause-small c = (judged_small c.args.i.now c.args.args.now c.requires.judged).1

@@ -1,0 +1,125 @@
+-- The theorem that an image carries for its model: called on any state that is ready, it returns within its stated
+-- steps with the model's value, and changes nothing else.
+use Rattle.std.specs.Prelude.{◌≡◌, ◌≢◌, ℕ, ◌+◌, ◌≤◌, ◌<◌, List, [], ◌∷◌, map, take, Option, Some, None, Ok, IsSome, IfOk, ◌↔◌, ◌⊎◌, pos, sum_by, slice_index_or, if◌then◌else◌, ⊤}
+use Rattle.std.specs.FinMap.{get}
+use Rattle.rup_base.specs.declared.arg.Kind.{Kind}
+use Rattle.rup_base.specs.declared.arg.Arg.{Arg}
+use Rattle.rup_base.specs.declared.arg.Arg.TheVariants as arg
+use Rattle.side_certs.specs.LinearForm.{LinearForm, constant, symbol, plus, minus, times}
+use Rattle.cost_poly.specs.Polynomial.{at}
+use Rattle.image_layout.specs.declared.image.Image.{Image}
+use Rattle.image_layout.specs.Spelling.{registers_of}
+use Rattle.model_syntax.specs.declared.stmt.Lin.{Lin, Lin-F, fold-Lin}
+use Rattle.model_syntax.specs.declared.stmt.Lin.TheOpen as l
+use Rattle.model_syntax.specs.declared.stmt.Le.{Le}
+use Rattle.model_syntax.specs.declared.program.Len.{Len}
+use Rattle.model_syntax.specs.declared.program.Len.TheVariants.{Fixed, Named}
+use Rattle.model_syntax.specs.declared.program.Param.{Param}
+use Rattle.model_syntax.specs.declared.program.Param.TheVariants as param
+use Rattle.model_syntax.specs.declared.program.Ret.{Ret}
+use Rattle.model_syntax.specs.declared.program.Ret.TheVariants as ret
+use Rattle.model_syntax.specs.declared.program.Model.{Model}
+use Rattle.model_syntax.specs.Names.{Name, same}
+use Rattle.model_syntax.specs.Types.{kind_of}
+use Rattle.model_syntax.specs.Value.{value}
+use Rattle.rv_machine.specs.State.{State, register}
+use Rattle.rv_machine.specs.Step.{after}
+use Rattle.run_setup.specs.Judging.{symbol_values}
+use Rattle.run_setup.specs.Ready.{Range, Within, Stands, array_bytes, image_range, stack_range, array_range, Ready}
+
+-- The parameters, requirements and results of a model, as an image has them.
+
+abbrev pub length_names : Len → List Name
+length_names (Fixed n) = []
+length_names (Named x) = x ∷ []
+
+-- the entry symbols stand for words, bytes and named lengths, in the order of the parameters
+abbrev pub entry_names : List Param → List Name
+entry_names [] = []
+entry_names (param.Word x ∷ ps) = x ∷ entry_names ps
+entry_names (param.Byte x ∷ ps) = x ∷ entry_names ps
+entry_names (param.Bytes a (Fixed n) ∷ ps) = entry_names ps
+entry_names (param.Bytes a (Named x) ∷ ps) = x ∷ entry_names ps
+entry_names (param.Words a (Fixed n) ∷ ps) = entry_names ps
+entry_names (param.Words a (Named x) ∷ ps) = x ∷ entry_names ps
+
+-- the number of a name among names that have it
+abbrev pub number_among : Name → List Name → ℕ
+number_among x [] = 0
+number_among x (y ∷ ys) = if same y x then 0 else 1 + number_among x ys
+
+-- a side of a requirement as a form over the entry symbols
+abbrev pub side_step : Lin-F (List Name → LinearForm) → List Name → LinearForm
+side_step (l.Const n) names = constant (pos n)
+side_step (l.Var x) names = symbol (number_among x names)
+side_step (l.Sum p q) names = plus (p names) (q names)
+side_step (l.Scale k p) names = times (pos k) (p names)
+
+abbrev pub side : Lin → List Name → LinearForm
+side = fold-Lin (List Name → LinearForm) side_step
+
+-- the high side less the low one
+abbrev pub requirement : List Param → Le → LinearForm
+requirement ps r = minus (side r.high (entry_names ps)) (side r.low (entry_names ps))
+
+abbrev pub name_of : Param → Name
+name_of (param.Word x) = x
+name_of (param.Byte x) = x
+name_of (param.Bytes a n) = a
+name_of (param.Words a n) = a
+
+-- a result is the number of its array parameter, or none for a scalar
+abbrev pub result_place : List Param → Ret → Option ℕ
+result_place ps (ret.Scalar x) = None
+result_place ps (ret.Array a p) = Some (number_among p (map name_of ps))
+
+-- The call.
+
+-- the register that holds the pointer of a parameter
+abbrev pub register_of : List Kind → ℕ → ℕ
+register_of kinds p = 10 + sum_by registers_of (take p kinds)
+
+-- scalar results are in a0 and a1, in order; a returned array stands where its parameter's did
+abbrev pub HasResults : List Kind → List (Option ℕ) → List Arg → ℕ → State → State → Type 0
+HasResults kinds [] [] r s u = ⊤
+HasResults kinds (None ∷ rets) (arg.Word n ∷ results) r s u = (register u.regs r ≡ n) × HasResults kinds rets results (r + 1) s u
+HasResults kinds (Some p ∷ rets) (result ∷ results) r s u =
+    Stands u.mem (register s.regs (register_of kinds p)) (array_bytes result) × HasResults kinds rets results r s u
+HasResults kinds rets results r s u = ⊥
+
+-- an address in the range of a returned array
+abbrev pub Returned : List Kind → List (Option ℕ) → List Arg → State → ℕ → Type 0
+Returned kinds [] args s address = ⊥
+Returned kinds (None ∷ rets) args s address = Returned kinds rets args s address
+Returned kinds (Some p ∷ rets) args s address =
+    Within (array_range (register_of kinds p) (slice_index_or args p (arg.Word 0)) s) address ⊎ Returned kinds rets args s address
+
+-- sp, gp and tp are x2 to x4; s0 and s1 are x8 and x9; s2 to s11 are x18 to x27
+abbrev pub IsSaved : ℕ → Type 0
+IsSaved r = ((2 ≤ r) × (r ≤ 4)) ⊎ (((8 ≤ r) × (r ≤ 9)) ⊎ ((18 ≤ r) × (r ≤ 27)))
+
+-- before a step of the call: no step has trapped, the place lies in the image, and is not the one to return to
+pub record IsUnderWay (i : Image) (base : ℕ) (s : State) (j : ℕ) : Type 0 where
+  pub state : State
+  pub ran : after j s ≡ Ok state
+  pub in_image : Within (image_range i base) state.pc
+  pub not_back : state.pc ≢ register s.regs 1
+
+-- the call that starts in s returns: `steps` is the least number of steps after which pc is the start's ra
+pub record Returns (m : Model) (i : Image) (args : List Arg) (base : ℕ) (s : State) : Type 0 where
+  pub steps : ℕ
+  pub end : State
+  pub ran : after steps s ≡ Ok end
+  pub back : end.pc ≡ register s.regs 1
+  pub before : (j : ℕ) → j < steps → IsUnderWay i base s j
+  pub in_time : steps ≤ at (symbol_values i.params args) i.bound
+  pub has_results : IfOk (value m args) (λ results. HasResults i.params i.rets results 10 s end)
+  pub saved : (r : ℕ) → IsSaved r → register end.regs r ≡ register s.regs r
+  pub same_addresses : (address : ℕ) → IsSome (get end.mem address) ↔ IsSome (get s.mem address)
+  pub others : (address : ℕ) → (Within (stack_range i s) address → ⊥) → (Returned i.params i.rets args s address → ⊥) → get end.mem address ≡ get s.mem address
+
+pub record Good (m : Model) (i : Image) : Type 0 where
+  pub params_are : i.params ≡ map kind_of m.params
+  pub requires_are : i.requires_ ≡ map (requirement m.params) m.requires_
+  pub rets_are : i.rets ≡ map (result_place m.params) m.rets
+  pub returns : (args : List Arg) (base : ℕ) (s : State) → Ready m i args base s → Returns m i args base s

@@ -1,0 +1,55 @@
+-- What holds of images and the models whose parameters, requirements and results they have.
+use Rattle.std.specs.Prelude.{◌≡◌, ℕ, ◌≤◌, ◌<◌, ◌^◌, ◌↔◌, List, map, min, Ok, ⊤}
+use Rattle.std.specs.List.{AllByRecursion}
+use Rattle.rup_base.specs.declared.arg.Arg.{Arg}
+use Rattle.rup_base.specs.declared.arg.Arg.TheVariants as arg
+use Rattle.cost_poly.specs.Polynomial.{at}
+use Rattle.image_layout.specs.declared.image.Image.{Image}
+use Rattle.image_layout.specs.Spelling.{IsWithinLimits}
+use Rattle.model_syntax.specs.declared.program.Model.{Model}
+use Rattle.model_syntax.specs.Types.{Well, kind_of}
+use Rattle.model_syntax.specs.Value.{Meets, results}
+use Rattle.rv_machine.specs.State.{State}
+use Rattle.rv_machine.specs.Run.{Ran}
+use Rattle.rv_machine.specs.declared.running.End.{End}
+use Rattle.rv_machine.specs.declared.running.End.TheVariants.{Returned}
+use Rattle.run_setup.specs.Arguments.{array_limit}
+use Rattle.run_setup.specs.Judging.{total_size, symbol_values, judged}
+use Rattle.run_setup.specs.Loading.{base, return_address, start_state}
+use Rattle.run_setup.specs.Results.{results_of, lines_of}
+use Rattle.run_setup.specs.Ready.{IsMachine, Ready}
+use Rattle.run_setup.specs.Good.{requirement, Good}
+
+-- the greatest number of steps of a run
+abbrev pub step_limit : ℕ
+step_limit = 1_000_000_000
+
+-- an image with the parameters and requirements of a well typed model is called with arguments exactly where they meet
+-- the model and their arrays are not too large
+abbrev pub JudgedIsMet : Type 0
+JudgedIsMet = (m : Model) (i : Image) (args : List Arg) → Well m → i.params ≡ map kind_of m.params → i.requires_ ≡ map (requirement m.params) m.requires_
+    → (judged i args ≡ Ok tt) ↔ (Meets m args × (total_size args ≤ array_limit))
+
+-- the state from which an image with the parameters of a model is called is ready, where its numbers are words and bytes
+abbrev pub LoadedIsReady : Type 0
+LoadedIsReady = (m : Model) (i : Image) (args : List Arg) → IsWithinLimits i → i.params ≡ map kind_of m.params → Meets m args → total_size args ≤ array_limit
+    → IsMachine (start_state i args) → Ready m i args base (start_state i args)
+
+-- the elements of an array of words are words
+abbrev pub HasWords : Arg → Type 0
+HasWords (arg.Words words) = AllByRecursion (λ n. n < 2 ^ 32) words
+HasWords result = ⊤
+
+-- the run ended at the stop address, and its results are printed as these; they are these where these are of words
+pub record Serves (i : Image) (args results : List Arg) (end : End) (s : State) : Type 0 where
+  pub steps : ℕ
+  pub returned : end ≡ Returned steps
+  pub printed : lines_of (results_of s i args) ≡ lines_of results
+  pub same : AllByRecursion HasWords results → results_of s i args ≡ results
+
+-- the run of a good image with arguments that meet its model, which is well typed, and give a bound of at most 10^9
+-- returns with the model's results
+abbrev pub GoodIsServed : Type 0
+GoodIsServed = (m : Model) (i : Image) (args : List Arg) (end : End) (s : State) → Well m → IsWithinLimits i → Good m i → Meets m args → total_size args ≤ array_limit
+    → IsMachine (start_state i args) → at (symbol_values i.params args) i.bound ≤ step_limit
+    → Ran return_address (min (at (symbol_values i.params args) i.bound) step_limit) (start_state i args) end s → Serves i args (results m args) end s

@@ -19,6 +19,8 @@ pub fn depth_of_expr(e: &BExpr) -> u32
     }
 }
 
+/// The greatest depth of a command's expressions, where a store counts one more than the greater of its two; 0 where there
+/// is none.
 #[cycle(depth)]
 pub fn depth_of_cmd(c: &Cmd) -> u32
     requires { cmd_size c.now < 2 ^ 32 }

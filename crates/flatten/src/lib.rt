@@ -5,6 +5,7 @@ mod depth;
 mod flattening;
 mod names;
 
+pub use depth::depth_of_cmd;
 pub use flattening::flatten;
 
 #[cfg(test)]

@@ -1,3 +1,4 @@
 pub mod Arguments
 pub mod Served
 pub mod Accepted
+pub mod Tableless

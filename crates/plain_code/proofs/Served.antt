@@ -1,5 +1,5 @@
 -- The command computes the model, three-address code keeps the command, and the instructions run as three-address code.
-use Rattle.std.proofs.Common.{◌≡◌, refl, sym, ◌∙◌, arith, ℕ, suc, ◌+◌, ◌<◌, ◌≤◌, List, [], length, Some, None, slice_get, ◌↔◌, subst, ap, Result, Ok, Err, IfOk}
+use Rattle.std.proofs.Common.{◌≡◌, refl, ◌∙◌, arith, ℕ, suc, ◌<◌, List, [], length, Some, None, slice_get, ap}
 use Rattle.std.proofs.lemmas.Option.{slice_get_within}
 use Rattle.std.specs.FinMap.{get, empty, get-empty}
 use Rattle.std.specs.Ordering.{nat_cmp}
@@ -12,16 +12,11 @@ use Rattle.flat_lang.specs.declared.flat.Flat.{Flat}
 use Rattle.flatten.specs.Keeps.{Keeps, Starts as Begins}
 use Rattle.plain_rules.specs.Computes.{Computes, Starts}
 use Rattle.plain_rules.specs.declared.checking.Checked.{Checked}
-use Rattle.rv_machine.specs.State.{Bytes, State, register}
-use Rattle.rv_emit.specs.Ready.{Range, Ready, IsPart, arguments}
+use Rattle.rv_machine.specs.State.{Bytes, State}
+use Rattle.rv_emit.specs.Ready.{IsPart, arguments}
 use Rattle.rv_emit.specs.Returns.{RunsAs}
-use Rattle.plain_code.specs.Serves.{HasWords, Gives, Serves}
+use Rattle.plain_code.specs.Serves.{HasWords, Serves}
 use Rattle.plain_code.proofs.Arguments.{locals, local_of, arg_of, roomy, variable_of, as_many}
-
--- what a result has, if it is one, has what follows
-pub if_ok : {A E : Type 0} (found : Result A E) (P Q : A → Type 0) → ((a : A) → P a → Q a) → IfOk found P → IfOk found Q
-if_ok (Ok a) P Q more is = more a is
-if_ok (Err why) P Q more is = tt
 
 nothing : Bytes
 nothing = empty

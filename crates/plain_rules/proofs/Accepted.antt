@@ -187,8 +187,11 @@ light m nodes body plain is =
     let whole : cmd_weight w (whole_of body) ≡ sum (map (cmd_weight w) body.commands) = fold_seq (cmd_weight_step w) body.commands in
     omega (arith, whole, right.weight_is, parts.nodes, parts.few)
 
+abbrev pub HasEach : Model → Checked → Type 0
+HasEach m checked = length checked.rets ≡ length m.rets
+
 abbrev pub Fulfils : Model → Checked → Type 0
-Fulfils m checked = Computes m checked × Small checked
+Fulfils m checked = Computes m checked × Small checked × HasEach m checked
 
 body_fulfils : (m : Model) → types.Well m → PlainParts m → (body : Body) → BodyRight (start 0 m.params []) m.body body → Yields (Fulfils m) (checked_of m body)
 body_fulfils m well plain body right =
@@ -201,7 +204,7 @@ body_fulfils m well plain body right =
     let covered = right.covers 0 start_typed.0 end_typed.0 end_typed.1.0 started.0 in
     let result = returned start_typed.0 end_typed.0.1 body.after m.rets plain.one_result end_typed.1.1 covered in
     let few : length m.params ≤ 8 = omega (arith, started.1) in
-    (computes m body plain right result, small m body plain right result few)
+    (computes m body plain right result, small m body plain right result few, ap length result.locals_are ∙ sym (ap length result.rets_are))
 
 pub fulfils : (m : Model) (d : Derivation) → types.Well m → Plain m → Yields (Fulfils m) (derived m d)
 fulfils m d well plain = by (same d.model m.name) refl where
@@ -228,3 +231,9 @@ pub small_only : (inner m : Model) (d : Derivation) (result : Result Checked Fai
 small_only inner m d result is well plain answered =
     let here : Plain m = subst Plain (sym is) plain in
     if_answered Small result (derived m d) answered (yields_part (Fulfils m) Small (derived m d) (λ ch both. both.1) (fulfils m d well here))
+
+pub each_only : (inner m : Model) (d : Derivation) (result : Result Checked Fail) → m ≡ inner → types.Well m → Plain inner → Answers result (derived m d) → IfOk result (HasEach inner)
+each_only inner m d result is well plain answered =
+    let here : Plain m = subst Plain (sym is) plain in
+    subst (λ (z : Model). IfOk result (HasEach z)) is
+    (if_answered (HasEach m) result (derived m d) answered (yields_part (Fulfils m) (HasEach m) (derived m d) (λ ch all. all.2) (fulfils m d well here)))

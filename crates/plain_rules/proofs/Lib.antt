@@ -7,4 +7,4 @@ mod ExprValues
 mod Fits
 mod Start
 mod StmtSteps
-mod Yields
+pub mod Yields

@@ -38,6 +38,7 @@ pub fn derive_plain(alloc: Global, m: &Typed, d: &Derivation) -> Result<Checked,
     ensures derived { Answers result (spec.derived m.now.inner d.now) }
     ensures computes { IfOk result (λ checked. Computes m.now.inner checked) }
     ensures small { IfOk result (λ checked. Small checked) }
+    ensures results { IfOk result (λ checked. length checked.rets ≡ length m.now.inner.rets) }
 {
     check(alloc, m.model(), d)
 }

@@ -1,0 +1,5 @@
+pub mod Parameters
+pub mod Standing
+pub mod Around
+pub mod Called
+pub mod Finished

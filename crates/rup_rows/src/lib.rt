@@ -2,4 +2,14 @@
 #![tactic(auto)]
 
 #[cfg(test)]
-mod rows;
+mod calls;
+#[cfg(test)]
+mod eval_rows;
+#[cfg(test)]
+mod fault_rows;
+#[cfg(test)]
+mod models;
+#[cfg(test)]
+mod replay_rows;
+#[cfg(test)]
+mod run_rows;

@@ -1,12 +1,10 @@
 -- Where files and sinks are told, a call ends in one of four ways.
-use Rattle.std.proofs.Common.{◌≡◌, ◌≢◌, ℕ, zero, suc, ◌≤◌, List, [], ◌∷◌, ◌++◌, length, take, Option, Some, None, ◌⊎◌, inl, inr, refl, sym, subst, ap, ◌∙◌, arith}
+use Rattle.std.proofs.Common.{◌≡◌, ℕ, zero, suc, List, [], ◌++◌, take, Option, Some, None, inl, inr, refl, sym, ap, ◌∙◌, arith}
 use Rattle.std.specs.Io.KnownBytes.{Appends, Keeps}
-use Rattle.rup_io.specs.Count.{Rose}
 use Rattle.rup_top.proofs.Ways.{append_nothing}
-use Rattle.rup_io.specs.Sink.{AppendsPrefix}
 use Rattle.rup_top.specs.declared.answer.Answer.{Answer}
-use Rattle.rup_top.specs.Script.{Told, Script, Comes, Faulted, Answers, read_fault}
-use Rattle.rup_top.specs.Clauses.{Sunk, Read, Whole, CutOut, CutNotes, Delivers, OutOfMemory, Answered, Ends, FourWays, AsOutcome, AsReadFault, OutCut, NotesCut, FaultCut, AsWriteFault, AsNoMemory, IsTold}
+use Rattle.rup_top.specs.Script.{Script, Answers}
+use Rattle.rup_top.specs.Clauses.{Sunk, Read, Whole, CutOut, CutNotes, Delivers, Ends, FourWays, IsTold}
 
 -- a told sink that takes bytes, a prefix of them, or none
 appended : (old new : Option (List ℕ)) (o bytes : List ℕ) → old ≡ Some o → Appends old new bytes → new ≡ Some (o ++ bytes)

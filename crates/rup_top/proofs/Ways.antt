@@ -1,19 +1,26 @@
 -- What follows of how a call ends, for its status and for both sinks.
-use Rattle.std.proofs.Common.{◌≡◌, ◌≢◌, ℕ, ◌≤◌, List, [], ◌∷◌, ◌++◌, length, take, Option, Some, None, Result, Ok, Err, ◌⊎◌, inl, inr, refl, sym, subst, ap, ◌∙◌, arith}
+use Rattle.std.proofs.Common.{◌≡◌, ◌≢◌, ℕ, ◌≤◌, List, [], ◌∷◌, ◌++◌, Option, Some, None, Result, Ok, Err, ◌⊎◌, inl, inr, refl, sym, subst, ap, ◌∙◌, arith}
 use Rattle.std.specs.Io.KnownBytes.{Appends, Keeps}
-use Rattle.rup_base.specs.declared.fail.Fail.{Fail}
-use Rattle.rup_base.specs.declared.fail.Fail.TheVariants as fail
+use Rattle.rup_base.specs.declared.arg.Arg.{Arg}
 use Rattle.rup_base.specs.declared.refusal.Refusal.{Refusal}
 use Rattle.rup_base.specs.declared.refusal.Refusal.TheVariants.{Stuck, TooLong}
 use Rattle.rup_io.specs.Count.{Rose}
-use Rattle.rup_io.specs.Files.{Holds}
-use Rattle.rup_io.specs.Sink.{AppendsPrefix}
+use Rattle.image_layout.specs.declared.image.Image.{Image}
+use Rattle.image_layout.specs.Reading.{read}
+use Rattle.model_syntax.specs.declared.program.Model.{Model}
+use Rattle.rv_machine.specs.declared.running.End.{End}
+use Rattle.rv_machine.specs.declared.running.End.TheVariants.{Returned, Trapped, OutOfSteps}
+use Rattle.rv_machine.specs.State.{State}
+use Rattle.run_setup.specs.Loading.{loaded}
 use Rattle.rup_top.specs.declared.answer.Answer.{Answer}
+use Rattle.rup_top.specs.Answer.{status_of, refused, read_fault, usage_answer}
+use Rattle.rup_top.specs.Evals.{typed_model, evaluated, results_answer}
 use Rattle.rup_top.specs.Judgement.{Judged}
-use Rattle.rup_top.specs.Script.{Told, Verdict, exactly, judges, Allows, Script, comes_to, asks, Comes, Reaches, Faulted, Answers, Command, usage, replay, script_of, replay_script, status_of, refused, read_fault, usage_answer, image_answer, Replies}
-use Rattle.rup_top.specs.Clauses.{Sunk, Read, Whole, CutOut, CutNotes, Delivers, OutOfMemory, Answered, Ends, FourWays, AsOutcome, AsReadFault, OutCut, NotesCut, FaultCut, AsWriteFault, AsNoMemory, IsTold}
+use Rattle.rup_top.specs.Runs.{run_answer}
+use Rattle.rup_top.specs.Script.{Told, Allows, Script, comes_to, asks, takes, Comes, Faulted, Answers, Command, usage, replay, run, eval, script_of, run_verdict, image_script, model_script}
+use Rattle.rup_top.specs.Clauses.{Sunk, Read, Delivers, Ends}
 
--- what each answer that a command's script comes to has
+-- What each answer has that a command's script comes to: none but usage has status 2.
 pub record IsPlain (c : Command) (a : Answer) : Type 0 where
   pub within : a.status ≤ 7
   pub no_fault : a.status ≢ 3
@@ -23,45 +30,73 @@ pub record IsPlain (c : Command) (a : Answer) : Type 0 where
   pub is_usage : c ≡ usage → a.status ≡ 2
   pub keeps : a.status ≢ 0 → a.out ≡ []
 
+-- commands that have a script of their own
+abbrev pub Asks : Command → Type 0
+Asks c = c ≡ usage → ⊥
+
+not_usage : (c : Command) → (f : Command → ℕ) → f c ≡ 1 → f usage ≡ 0 → Asks c
+not_usage c f one none e = omega (arith, one, none, ap f e)
+
+abbrev is_asking : Command → ℕ
+is_asking usage = 0
+is_asking c = 1
+
+replay_asks : (m t : List ℕ) → Asks (replay m t)
+replay_asks m t = not_usage (replay m t) is_asking refl refl
+
+run_asks : (i : List ℕ) (texts : List (List ℕ)) → Asks (run i texts)
+run_asks i texts = not_usage (run i texts) is_asking refl refl
+
+eval_asks : (m : List ℕ) (texts : List (List ℕ)) → Asks (eval m texts)
+eval_asks m texts = not_usage (eval m texts) is_asking refl refl
+
 pub refusal_status : (r : Refusal) → (status_of r ≡ 1) ⊎ (status_of r ≡ 6)
 refusal_status (Stuck stmt goal) = inr refl
 refusal_status r = inl refl
 
-not_usage : (m t : List ℕ) → replay m t ≡ usage → ⊥
-not_usage m t e = let bad : ◌≡◌ {A = ℕ} 0 1 = cc in absurd (omega (arith, bad))
-
-plain_refused : (m t : List ℕ) (r : Refusal) → IsPlain (replay m t) (refused r)
-plain_refused m t r = elim (refusal_status r) [
-  | inl one ↦ record {
-    within = omega (arith, one);
-    no_fault = λ e. omega (arith, one, e);
-    no_cut = λ e. omega (arith, one, e);
-    no_lack = λ e. omega (arith, one, e);
-    usage_only = λ e. absurd (omega (arith, one, e));
-    is_usage = λ e. absurd (not_usage m t e);
-    keeps = λ _. refl;
-  }
-  | inr six ↦ record {
-    within = omega (arith, six);
-    no_fault = λ e. omega (arith, six, e);
-    no_cut = λ e. omega (arith, six, e);
-    no_lack = λ e. omega (arith, six, e);
-    usage_only = λ e. absurd (omega (arith, six, e));
-    is_usage = λ e. absurd (not_usage m t e);
-    keeps = λ _. refl;
-  }
-]
-
-plain_image : (m t image : List ℕ) → IsPlain (replay m t) (image_answer image)
-plain_image m t image = record {
-  within = omega arith;
-  no_fault = λ e. omega (arith, e);
-  no_cut = λ e. omega (arith, e);
-  no_lack = λ e. omega (arith, e);
-  usage_only = λ e. absurd (omega (arith, e));
-  is_usage = λ e. absurd (not_usage m t e);
-  keeps = λ e. absurd (e refl);
+-- an answer with status 0, and one with a status that keeps `out`
+plain_done : (c : Command) → Asks c → (a : Answer) → a.status ≡ 0 → IsPlain c a
+plain_done c own a zero = record {
+  within = omega (arith, zero);
+  no_fault = λ e. omega (arith, zero, e);
+  no_cut = λ e. omega (arith, zero, e);
+  no_lack = λ e. omega (arith, zero, e);
+  usage_only = λ e. absurd (omega (arith, zero, e));
+  is_usage = λ e. absurd (own e);
+  keeps = λ other. absurd (other zero);
 }
+
+plain_silent : (c : Command) → Asks c → (a : Answer) → a.out ≡ [] → (a.status ≡ 1) ⊎ ((a.status ≡ 6) ⊎ (a.status ≡ 7)) → IsPlain c a
+plain_silent c own a silent (inl one) = record {
+  within = omega (arith, one);
+  no_fault = λ e. omega (arith, one, e);
+  no_cut = λ e. omega (arith, one, e);
+  no_lack = λ e. omega (arith, one, e);
+  usage_only = λ e. absurd (omega (arith, one, e));
+  is_usage = λ e. absurd (own e);
+  keeps = λ _. silent;
+}
+plain_silent c own a silent (inr (inl six)) = record {
+  within = omega (arith, six);
+  no_fault = λ e. omega (arith, six, e);
+  no_cut = λ e. omega (arith, six, e);
+  no_lack = λ e. omega (arith, six, e);
+  usage_only = λ e. absurd (omega (arith, six, e));
+  is_usage = λ e. absurd (own e);
+  keeps = λ _. silent;
+}
+plain_silent c own a silent (inr (inr seven)) = record {
+  within = omega (arith, seven);
+  no_fault = λ e. omega (arith, seven, e);
+  no_cut = λ e. omega (arith, seven, e);
+  no_lack = λ e. omega (arith, seven, e);
+  usage_only = λ e. absurd (omega (arith, seven, e));
+  is_usage = λ e. absurd (own e);
+  keeps = λ _. silent;
+}
+
+plain_refused : (c : Command) → Asks c → (r : Refusal) → IsPlain c (refused r)
+plain_refused c own r = plain_silent c own (refused r) refl (elim (refusal_status r) [ inl one ↦ inl one | inr six ↦ inr (inl six) ])
 
 plain_usage : IsPlain usage usage_answer
 plain_usage = record {
@@ -74,16 +109,55 @@ plain_usage = record {
   keeps = λ _. refl;
 }
 
-plain_reply : (m t : List ℕ) (result : Result (List ℕ) Fail) (a : Answer) → Replies result a → IsPlain (replay m t) a
-plain_reply m t (Ok image) a is = subst (IsPlain (replay m t)) (sym is) (plain_image m t image)
-plain_reply m t (Err (fail.Refused r)) a is = subst (IsPlain (replay m t)) (sym is) (plain_refused m t r)
-plain_reply m t (Err fail.NoMemory) a is = absurd is
+-- Every answer that a script may come to has a property, where each refusal and each verdict's answers have it.
+abbrev Leads : (Answer → Type 0) → Script → Type 0
+Leads P (comes_to verdict) = (a : Answer) → Allows verdict a → P a
+Leads P (asks place name limit next) = (bytes : List ℕ) → Leads P (next bytes)
+Leads P (takes kinds texts verdict) = (args : List Arg) (a : Answer) → Allows (verdict args) a → P a
+
+leads : (P : Answer → Type 0) (held : Told) (s : Script) → ((r : Refusal) → P (refused r)) → Leads P s → (a : Answer) → Comes held s a → P a
+leads P held (comes_to verdict) refusals all a comes = all a comes
+leads P held (asks place name limit next) refusals all a (bytes, holds, inl (fits, comes)) = leads P held (next bytes) refusals (all bytes) a comes
+leads P held (asks place name limit next) refusals all a (bytes, holds, inr (long, is)) = subst P (sym is) (refusals (TooLong place limit))
+leads P held (takes kinds texts verdict) refusals all a (inl (args, taken, allows)) = all args a allows
+leads P held (takes kinds texts verdict) refusals all a (inr (refusal, taken, is)) = subst P (sym is) (refusals refusal)
+
+plain_judged : (m t : List ℕ) (c : Command) → Asks c → (a : Answer) → Judged m t a → IsPlain c a
+plain_judged m t c own a (inl accepted) = plain_done c own a accepted.status_is
+plain_judged m t c own a (inr (r, refuses, is)) = subst (IsPlain c) (sym is) (plain_refused c own r)
+
+plain_end : (c : Command) → Asks c → (i : Image) (args : List Arg) (end : End) (t : State) → IsPlain c (run_answer i args end t)
+plain_end c own i args (Returned steps) t = plain_done c own _ refl
+plain_end c own i args (Trapped cause pc steps) t = plain_silent c own _ refl (inr (inr refl))
+plain_end c own i args (OutOfSteps steps) t = plain_silent c own _ refl (inr (inr refl))
+
+plain_verdict : (c : Command) → Asks c → (i : Image) (args : List Arg) (s : Result State Refusal) (a : Answer) → Allows (run_verdict i args s) a → IsPlain c a
+plain_verdict c own i args (Ok s) a ends = subst (IsPlain c) (sym ends.answer_is) (plain_end c own i args ends.end ends.state)
+plain_verdict c own i args (Err r) a is = subst (IsPlain c) (sym is) (plain_refused c own r)
+
+plain_image : (c : Command) → Asks c → (texts : List (List ℕ)) (i : Result Image Refusal) → Leads (IsPlain c) (image_script texts i)
+plain_image c own texts (Ok i) = λ args a allows. plain_verdict c own i args (loaded i args) a allows
+plain_image c own texts (Err r) = λ a is. subst (IsPlain c) (sym is) (plain_refused c own r)
+
+plain_results : (c : Command) → Asks c → (results : Result (List Arg) Refusal) → IsPlain c (results_answer results)
+plain_results c own (Ok results) = plain_done c own _ refl
+plain_results c own (Err r) = plain_refused c own r
+
+plain_model : (c : Command) → Asks c → (texts : List (List ℕ)) (m : Result Model Refusal) → Leads (IsPlain c) (model_script texts m)
+plain_model c own texts (Ok m) = λ args a is. subst (IsPlain c) (sym is) (plain_results c own (evaluated m args))
+plain_model c own texts (Err r) = λ a is. subst (IsPlain c) (sym is) (plain_refused c own r)
 
 pub plain_comes : (held : Told) (c : Command) (a : Answer) → Comes held (script_of c) a → IsPlain c a
 plain_comes held usage a is = subst (IsPlain usage) (sym is) plain_usage
-plain_comes held (replay m t) a (bytes, holds, inr (long, is)) = subst (IsPlain (replay m t)) (sym is) (plain_refused m t (TooLong 1 1_048_576))
-plain_comes held (replay m t) a (bytes, holds, inl (fits, (tree, tree_holds, inr (long, is)))) = subst (IsPlain (replay m t)) (sym is) (plain_refused m t (TooLong 2 16_777_216))
-plain_comes held (replay m t) a (bytes, holds, inl (fits, (tree, tree_holds, inl (tree_fits, (result, judged, is))))) = plain_reply m t result a is
+plain_comes held (replay m t) a comes =
+    let own = replay_asks m t in
+    leads (IsPlain (replay m t)) held (script_of (replay m t)) (plain_refused (replay m t) own) (λ model tree b judged. plain_judged model tree (replay m t) own b judged) a comes
+plain_comes held (run i texts) a comes =
+    let own = run_asks i texts in
+    leads (IsPlain (run i texts)) held (script_of (run i texts)) (plain_refused (run i texts) own) (λ bytes. plain_image (run i texts) own texts (read bytes)) a comes
+plain_comes held (eval m texts) a comes =
+    let own = eval_asks m texts in
+    leads (IsPlain (eval m texts)) held (script_of (eval m texts)) (plain_refused (eval m texts) own) (λ bytes. plain_model (eval m texts) own texts (typed_model bytes)) a comes
 
 -- the status and the files' part of an answer: an outcome, or a fetch that failed
 pub fault_status : (held : Told) (s : Script) (before now : ℕ) (last : Option (List ℕ)) (a : Answer) → (f : Faulted held s before now last) → a ≡ read_fault f.place → a.status ≡ 3
@@ -113,7 +187,9 @@ on_usage c files out notes status (inr ended) e = by_delivery ended.delivers
   where
     no_fault : (d : Command) → d ≡ usage → Faulted files.held (script_of d) files.before files.now files.last → ⊥
     no_fault usage d fault = fault.reached
-    no_fault (replay m t) d fault = not_usage m t d
+    no_fault (replay m t) d fault = replay_asks m t d
+    no_fault (run i texts) d fault = run_asks i texts d
+    no_fault (eval m texts) d fault = eval_asks m texts d
 
     by_answer : Answers files.held (script_of c) files.before files.now files.last ended.answer → ended.answer.status ≡ 2
     by_answer (inl comes) = (plain_comes files.held c ended.answer comes).is_usage e

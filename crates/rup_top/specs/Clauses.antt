@@ -1,16 +1,11 @@
 -- What the top call promises: how a call ends, for all words, files and sinks.
-use Rattle.std.specs.Prelude.{◌≡◌, ◌≢◌, ℕ, ◌≤◌, List, [], ◌++◌, length, take, Option, Some, None, ◌⊎◌}
+use Rattle.std.specs.Prelude.{◌≡◌, ℕ, List, ◌++◌, take, Option, Some, ◌⊎◌}
 use Rattle.std.specs.Io.KnownBytes.{Appends, Keeps}
 use Rattle.rup_io.specs.Count.{Rose}
-use Rattle.rup_io.specs.Files.{Holds}
 use Rattle.rup_io.specs.Sink.{AppendsPrefix}
 use Rattle.rup_top.specs.declared.answer.Answer.{Answer}
-use Rattle.rup_top.specs.declared.literal_model.LiteralModel.{LiteralModel}
-use Rattle.rup_top.specs.declared.derivation.Derivation.{Derivation}
-use Rattle.rup_top.specs.Model.{Spells}
-use Rattle.rup_top.specs.Derivation.{File, Instance}
-use Rattle.rup_top.specs.Judgement.{Accepted}
-use Rattle.rup_top.specs.Script.{Told, Script, Command, usage, replay, Comes, Faulted, Answers, read_fault, script_of, model_limit, tree_limit}
+use Rattle.rup_top.specs.Answer.{read_fault}
+use Rattle.rup_top.specs.Script.{Told, Script, Comes, Faulted, Answers}
 
 -- a sink before and after a call: its count of faults, and the bytes that it took, where they are told
 pub record Sunk : Type 0 where
@@ -128,48 +123,3 @@ FourWays script files out notes o n status =
 abbrev pub IsTold : Script → Read → Sunk → Sunk → ℕ → Type 0
 IsTold script files out notes status =
     (held : List (List ℕ × List ℕ)) (o n : List ℕ) → files.held ≡ Some held → out.taken ≡ Some o → notes.taken ≡ Some n → FourWays script files out notes o n status
-
--- ---- The headline: `replay` writes an image exactly where it accepts.
-
--- the files of the words are a model and a derivation that is an instance of it, within their limits
-pub record AcceptsFiles (held : Told) (model tree : List ℕ) : Type 0 where
-  pub model_bytes : List ℕ
-  pub model_held : Holds held model model_bytes
-  pub model_fits : length model_bytes ≤ model_limit
-  pub tree_bytes : List ℕ
-  pub tree_held : Holds held tree tree_bytes
-  pub tree_fits : length tree_bytes ≤ tree_limit
-  pub m : LiteralModel
-  pub spells : Spells model_bytes m
-  pub d : Derivation
-  pub file : File tree_bytes d
-  pub is_instance : Instance m d
-
--- `out` grew by an image that is written for the model and the derivation of the files
-pub record WritesImage (held : Told) (model tree : List ℕ) (out : Sunk) : Type 0 where
-  pub model_bytes : List ℕ
-  pub model_held : Holds held model model_bytes
-  pub model_fits : length model_bytes ≤ model_limit
-  pub tree_bytes : List ℕ
-  pub tree_held : Holds held tree tree_bytes
-  pub tree_fits : length tree_bytes ≤ tree_limit
-  pub image : List ℕ
-  pub accepted : Accepted model_bytes tree_bytes image
-  pub out_takes : Appends out.taken out.taken_now image
-
--- status 0 comes with an image
-abbrev pub WritesOnly : Command → Read → Sunk → ℕ → Type 0
-WritesOnly usage files out status = status ≢ 0
-WritesOnly (replay model tree) files out status = status ≡ 0 → WritesImage files.held model tree out
-
--- no count rose in the call
-pub record IsUndisturbed (files : Read) (out notes : Sunk) : Type 0 where
-  pub files_same : Rose files.before files.now → ⊥
-  pub out_same : Rose out.before out.now → ⊥
-  pub notes_same : Rose notes.before notes.now → ⊥
-
--- files that are accepted are replayed to status 0, or memory runs out
-abbrev pub WritesAll : Command → Read → Sunk → Sunk → ℕ → Type 0
-WritesAll usage files out notes status = Unit {0}
-WritesAll (replay model tree) files out notes status =
-    (held : List (List ℕ × List ℕ)) → files.held ≡ Some held → AcceptsFiles files.held model tree → IsUndisturbed files out notes → (status ≡ 0) ⊎ (status ≡ 5)

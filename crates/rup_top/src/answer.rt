@@ -1,9 +1,8 @@
 //! What a command answers, made whole before the first write.
 ghost use Rattle.std.specs.Prelude.{◌≡◌};
-ghost use Rattle.rup_top.specs.Script as spec;
 
-use rup_base::{NoMemory, Refusal, Text};
-use std::alloc::Global;
+use run_setup::ArgsFail;
+use rup_base::{Fail, NoMemory, Refusal, Text};
 
 /// A status, the bytes for `out`, and the line for `notes`; an empty text is not written.
 #[derive(Debug, Drop)]
@@ -13,10 +12,12 @@ pub struct Answer {
     pub note: Text,
 }
 
-/// Why a command ends before its last step: it has its answer, or memory ran out.
+/// Why a command ends before its last step.
 #[derive(Debug, Drop)]
 pub enum Stop {
-    With(Answer),
+    Refused(Refusal),
+    /// The file of the word at this place could not be read.
+    ReadFault { place: u32 },
     NoMemory,
 }
 
@@ -28,5 +29,34 @@ impl From<NoMemory> for Stop {
 
     fn from(_error: NoMemory) -> Stop {
         Stop::NoMemory
+    }
+}
+
+impl From<Fail> for Stop {
+    ghost use Rattle.std.specs.Prelude.{◌≡◌};
+    ghost use Rattle.rup_top.specs.Stops.{stop_of_fail};
+
+    ghost from_gives = { λ fail s. s ≡ stop_of_fail fail };
+
+    fn from(fail: Fail) -> Stop {
+        match fail {
+            Fail::Refused(refusal) => Stop::Refused(refusal),
+            Fail::NoMemory => Stop::NoMemory,
+        }
+    }
+}
+
+impl From<ArgsFail> for Stop {
+    ghost use Rattle.std.specs.Prelude.{◌≡◌};
+    ghost use Rattle.rup_top.specs.Stops.{stop_of_args};
+
+    ghost from_gives = { λ fail s. s ≡ stop_of_args fail };
+
+    fn from(fail: ArgsFail) -> Stop {
+        match fail {
+            ArgsFail::Refused(refusal) => Stop::Refused(refusal),
+            ArgsFail::ReadFault { word } => Stop::ReadFault { place: word },
+            ArgsFail::NoMemory => Stop::NoMemory,
+        }
     }
 }

@@ -1,21 +1,26 @@
 //! `replay M D`: a model and a derivation to an image.
-ghost use Rattle.std.specs.Prelude.{◌≡◌};
-ghost use Rattle.rup_top.specs.Judgement.{Judged};
+ghost use Rattle.std.specs.Prelude.{◌≡◌, ◌≤◌, length, IfOk};
+ghost use Rattle.rup_base.specs.Answers.{Answers};
+ghost use Rattle.bed_syntax.specs.Shape.{cmd_depth};
+ghost use Rattle.deriv_tree.specs.Shape.{IsWhole};
+ghost use Rattle.model_types.specs.Checked.{model_of};
+ghost use Rattle.plain_rules.specs.Computes.{locals_of};
+ghost use Rattle.plain_rules.specs.Plain.{Plain};
+ghost use Rattle.rup_top.specs.Judgement as judgement;
 ghost use Rattle.rup_top.specs.Script as spec;
 
 use crate::answer::{Answer, Stop};
-use crate::answers::{image, refused};
-use crate::derivation_file::read_derivation;
+use crate::answers::done;
+use crate::eval_command::{MODEL_LIMIT, typed_model};
 use crate::fetching::fetch_word;
-use crate::judgement::first_fault;
-use crate::literal_image::literal_image;
-use crate::model_reader::read_model;
-use rup_base::{Fail, Refusal, Text};
+use deriv_file::read_derivation;
+use deriv_tree::Derivation;
+use model_types::Typed;
+use plain_image::{Replayed, plain_image};
+use plain_rules::is_plain;
+use rup_base::{Fail, NoMemory, Refusal, Text};
 use rup_io::Files;
 use std::alloc::Global;
-
-/// The greatest length of a model's file, in bytes.
-const MODEL_LIMIT: u32 = 1_048_576;
 
 /// The greatest length of a derivation's file, in bytes.
 const TREE_LIMIT: u32 = 16_777_216;
@@ -38,143 +43,57 @@ pub fn replay<F: Files>(
         Ok(bytes) => bytes,
         Err(stop) => return Err(stop),
     };
-    reply(alloc, model, tree)
+    reply(alloc, model.as_slice(), tree.as_slice())
 }
 
-fn reply(alloc: Global, model: Text, tree: Text) -> Result<Answer, Stop>
-    ensures { spec.Gives result (λ a. spec.Allows (spec.judges model tree) a) }
+/// The image and its note, or the first refusal: of the model, of the derivation's file, of the derivation.
+fn reply(alloc: Global, model: &[u8], tree: &[u8]) -> Result<Answer, Stop>
+    requires model { length model.now ≤ spec.model_limit }
+    requires tree { length tree.now ≤ spec.tree_limit }
+    ensures { spec.Gives result (λ a. spec.Allows (spec.judges model.now tree.now) a) }
 {
-    match judge(alloc, model.as_slice(), tree.as_slice()) {
-        Ok(bytes) => Ok(image(alloc, bytes)),
-        Err(Fail::Refused(refusal)) => Ok(refused(alloc, &refusal)),
-        Err(Fail::NoMemory) => Err(Stop::NoMemory),
-    }
-}
-
-/// The image for the bytes of a model and of a derivation's file, else the first refusal: of the model, of the file, of an instance.
-fn judge(alloc: Global, model: &[u8], tree: &[u8]) -> Result<Text, Fail>
-    ensures { Judged model.now tree.now result }
-{
-    let model = read_model(alloc, model)?;
+    let typed = plain_model(alloc, model)?;
     let derivation = read_derivation(alloc, tree)?;
-    match first_fault(&model, &derivation) {
-        Some((node, cond)) => Err(Fail::Refused(Refusal::NoInstance { node, cond })),
-        None => Ok(literal_image(alloc, &model)?),
+    let replayed = plain_image(alloc, &typed, &derivation)?;
+    let note = replay_line(alloc, &derivation, &replayed)?;
+    Ok(done(replayed.image, note))
+}
+
+/// The well typed, plain model of the bytes of word 1, or the first refusal.
+fn plain_model(alloc: Global, bytes: &[u8]) -> Result<Typed, Fail>
+    requires { length bytes.now ≤ spec.model_limit }
+    ensures model { Answers (model_of result) (judgement.plain_model bytes.now) }
+    ensures plain { IfOk result (λ typed. Plain typed.inner) }
+{
+    let typed = typed_model(alloc, bytes)?;
+    if is_plain(typed.model()) {
+        Ok(typed)
+    } else {
+        Err(Fail::Refused(Refusal::NotModel { at: 0 }))
     }
 }
 
-#[cfg(test)]
-mod tests {
-    use super::*;
-    use std::test::Fail as TestFail;
-
-    /// A refusal as its number, its node and its condition, where it has them.
-    fn cause(judged: Result<Text, Fail>) -> Option<(u32, u32, u32)> {
-        match judged {
-            Err(Fail::Refused(Refusal::NotModel { at })) => Some((2, at, 0)),
-            Err(Fail::Refused(Refusal::NotDerivation { node: None })) => Some((7, 0, 0)),
-            Err(Fail::Refused(Refusal::NoInstance { node, cond })) => Some((9, node, cond)),
-            _ => None,
-        }
-    }
-
-    #[test]
-    fn each_refusal_has_its_place(rt: HostRuntime) -> Result<(), TestFail> {
-        let good = "(model z (params) (require) (do (let x 0)) (ret x))\n";
-        let let_nodes = "[\"s-let\",[0],[]],[\"e-lit\",[],[]]";
-        let rows = [
-            (good, "z", let_nodes, 1, None),
-            (
-                "(model z (params) (require) (do) (ret x))\n",
-                "z",
-                let_nodes,
-                1,
-                Some((2, 0, 0)),
-            ),
-            (
-                "(model z (params) (require) (do (let 0 0)) (ret 0))\n",
-                "z",
-                let_nodes,
-                1,
-                Some((2, 0, 0)),
-            ),
-            // the header: a block that isn't its list's, a name that is none, a rule that isn't known
-            (good, "z", let_nodes, 2, Some((7, 0, 0))),
-            (good, "0", let_nodes, 1, Some((7, 0, 0))),
-            (
-                good,
-                "z",
-                "[\"s-put\",[0],[]],[\"e-lit\",[],[]]",
-                1,
-                Some((7, 0, 0)),
-            ),
-            (
-                good,
-                "z",
-                "[\"s-let\",[0],[[1,[]]]],[\"e-lit\",[],[]]",
-                1,
-                Some((7, 0, 0)),
-            ),
-            (
-                good,
-                "z",
-                "[\"s-let\",[1.0],[]],[\"e-lit\",[],[]]",
-                1,
-                Some((7, 0, 0)),
-            ),
-            (
-                good,
-                "z",
-                "[\"s-let\",[1099511627777],[]],[\"e-lit\",[],[]]",
-                1,
-                Some((7, 0, 0)),
-            ),
-            // the instance: the name, the number of arguments, their range, a missing and a surplus statement node
-            (good, "y", let_nodes, 1, Some((9, 0, 0))),
-            (
-                good,
-                "z",
-                "[\"s-let\",[],[]],[\"e-lit\",[],[]]",
-                1,
-                Some((9, 0, 2)),
-            ),
-            (
-                good,
-                "z",
-                "[\"s-let\",[65536],[]],[\"e-lit\",[],[]]",
-                1,
-                Some((9, 0, 3)),
-            ),
-            (
-                good,
-                "z",
-                "[\"s-let\",[-1],[]],[\"e-lit\",[],[]]",
-                1,
-                Some((9, 0, 3)),
-            ),
-            (
-                good,
-                "z",
-                "[\"s-let\",[0],[]],[\"e-lit\",[7],[]]",
-                1,
-                Some((9, 1, 2)),
-            ),
-            (good, "z", "", 0, Some((9, 0, 4))),
-            (
-                good,
-                "z",
-                "[\"s-let\",[0],[]],[\"e-lit\",[],[]],[\"s-let\",[0],[]],[\"e-lit\",[],[]]",
-                2,
-                Some((9, 2, 1)),
-            ),
-        ];
-        for (number, (model, name, nodes, block, want)) in rows.into_iter().enumerate() {
-            let tree = format!(in rt.alloc();
-                "{{\"block\":{block},\"deriv\":1,\"model\":\"{name}\",\"nodes\":[{nodes}]}}"
-            )?;
-            let judged = judge(rt.alloc(), model.as_bytes(), tree.as_bytes());
-            assert_eq!(rt; cause(judged), want, "row {number}");
-        }
-        Ok(())
-    }
+/// The note of an image that is written.
+fn replay_line(
+    alloc: Global,
+    derivation: &Derivation,
+    replayed: &Replayed,
+) -> Result<Text, NoMemory>
+    requires whole { IsWhole derivation.now }
+    requires locals { replayed.now.locals ≡ length (locals_of replayed.now.checked) }
+    requires depth { replayed.now.depth ≡ cmd_depth replayed.now.checked.command }
+    ensures { IfOk result (λ note. note ≡ judgement.replay_line derivation.now replayed.now.checked) }
+{
+    let mut note = Text::from_slice(alloc, b"replay: nodes ")?;
+    note.push_number(alloc, u128::from(derivation.size()))?;
+    note.extend_from_slice(b" locals ")?;
+    note.push_number(alloc, u128::from(replayed.locals))?;
+    note.extend_from_slice(b" depth ")?;
+    note.push_number(alloc, u128::from(replayed.depth))?;
+    note.extend_from_slice(b" weight ")?;
+    note.push_number(alloc, u128::from(replayed.checked.weight))?;
+    note.extend_from_slice(b" bound ")?;
+    note.push_number(alloc, u128::from(replayed.checked.weight))?;
+    note.push(b'\n')?;
+    Ok(note)
 }

@@ -1,15 +1,20 @@
 //! The top call.
-ghost use Rattle.std.specs.Prelude.{◌≡◌, ◌≢◌, ◌≤◌, ◌⊎◌, map, string_bytes};
+ghost use Rattle.std.specs.Prelude.{◌≡◌, ◌≢◌, ◌≤◌, ◌⊎◌, map, string_bytes, IfOk};
 ghost use Rattle.std.specs.Io.KnownBytes.{Keeps};
 ghost use Rattle.rup_io.specs.Count.{Rose};
 ghost use Rattle.rup_top.specs.Script as spec;
-ghost use Rattle.rup_top.specs.Clauses.{Ends, IsTold, WritesOnly, WritesAll};
+ghost use Rattle.rup_top.specs.Clauses.{Ends, IsTold};
+ghost use Rattle.rup_top.specs.Headline.{WritesOnly, WritesAll};
+ghost use Rattle.rup_top.specs.Served.{RunsGood, EvalsGood};
 
 use crate::answer::{Answer, Stop};
 use crate::answers;
 use crate::delivery::deliver;
+use crate::eval_command::eval;
 use crate::replay_command::replay;
+use crate::run_command::run;
 use crate::words::{Request, request_of};
+use rup_base::NoMemory;
 use rup_io::{Files, Sink};
 use std::alloc::Global;
 
@@ -63,11 +68,23 @@ pub fn top<F: Files, O: Sink, N: Sink>(
         (record { held = F.held files.old; before = F.faults files.old; now = F.faults files.new; last = F.last files.new })
         (record { before = O.faults out.old; now = O.faults out.new; taken = O.taken out.old; taken_now = O.taken out.new })
         (record { before = N.faults notes.old; now = N.faults notes.new; taken = N.taken notes.old; taken_now = N.taken notes.new }) result.0 }
+
+    // Served: where files are told, the run of an image that is good for a model, with arguments that meet the model and
+    // give a bound of at most 10^9, ends with status 0 and writes exactly the lines of the model's results to `out`,
+    // unless a count of faults rose or memory ran out. So does the evaluation of a model: the two write the same bytes.
+    ensures runs_good { RunsGood (spec.command_of (map string_bytes words.now))
+        (record { held = F.held files.old; before = F.faults files.old; now = F.faults files.new; last = F.last files.new })
+        (record { before = O.faults out.old; now = O.faults out.new; taken = O.taken out.old; taken_now = O.taken out.new })
+        (record { before = N.faults notes.old; now = N.faults notes.new; taken = N.taken notes.old; taken_now = N.taken notes.new }) result.0 }
+    ensures evals_good { EvalsGood (spec.command_of (map string_bytes words.now))
+        (record { held = F.held files.old; before = F.faults files.old; now = F.faults files.new; last = F.last files.new })
+        (record { before = O.faults out.old; now = O.faults out.new; taken = O.taken out.old; taken_now = O.taken out.new })
+        (record { before = N.faults notes.old; now = N.faults notes.new; taken = N.taken notes.old; taken_now = N.taken notes.new }) result.0 }
 {
-    run(alloc, words, files, out, notes)
+    call(alloc, words, files, out, notes)
 }
 
-fn run<F: Files, O: Sink, N: Sink>(
+fn call<F: Files, O: Sink, N: Sink>(
     alloc: Global,
     words: &[String],
     files: &mut F,
@@ -83,18 +100,34 @@ fn run<F: Files, O: Sink, N: Sink>(
 {
     match answer_of(alloc, words, files) {
         Ok(answer) => Status(deliver(&answer, out, notes)),
-        Err(Stop::With(answer)) => Status(deliver(&answer, out, notes)),
-        Err(Stop::NoMemory) => Status(5),
+        Err(NoMemory) => Status(5),
     }
 }
 
-fn answer_of<F: Files>(alloc: Global, words: &[String], files: &mut F) -> Result<Answer, Stop>
+/// The answer of the command that the words name.
+fn answer_of<F: Files>(alloc: Global, words: &[String], files: &mut F) -> Result<Answer, NoMemory>
+    ensures held { F.held files.new ≡ F.held files.old }
+    ensures no_fetch { spec.command_of (map string_bytes words.now) ≡ spec.usage → files.new ≡ files.old }
+    ensures gives { IfOk result (λ a. spec.Answers (F.held files.old) (spec.script_of (spec.command_of (map string_bytes words.now))) (F.faults files.old) (F.faults files.new) (F.last files.new) a) }
+{
+    match commanded(alloc, words, files) {
+        Ok(answer) => Ok(answer),
+        Err(Stop::Refused(refusal)) => answers::refused(alloc, &refusal),
+        Err(Stop::ReadFault { place }) => answers::read_fault(alloc, place),
+        Err(Stop::NoMemory) => Err(NoMemory),
+    }
+}
+
+/// What the command comes to, or why it ends before its last step.
+fn commanded<F: Files>(alloc: Global, words: &[String], files: &mut F) -> Result<Answer, Stop>
     ensures held { F.held files.new ≡ F.held files.old }
     ensures no_fetch { spec.command_of (map string_bytes words.now) ≡ spec.usage → files.new ≡ files.old }
     ensures gives { spec.Gives result (λ a. spec.Answers (F.held files.old) (spec.script_of (spec.command_of (map string_bytes words.now))) (F.faults files.old) (F.faults files.new) (F.last files.new) a) }
 {
     match request_of(words) {
-        Request::Usage => Ok(answers::usage(alloc)),
+        Request::Usage => Ok(answers::usage(alloc)?),
         Request::Replay { model, tree } => replay(alloc, model, tree, files),
+        Request::Run { image, words } => run(alloc, image, words, files),
+        Request::Eval { model, words } => eval(alloc, model, words, files),
     }
 }

@@ -1,6 +1,8 @@
 #!/usr/bin/env bash
-# Builds the program where it isn't built, runs each example, and compares its image with the one that is wanted.
-# Needs the kit's command `rt`; the first build proves every crate below the program, which takes some minutes.
+# Builds the program where it isn't built, and runs each example: a model with a derivation is replayed, and its image
+# is run on the arguments of each case; every model is evaluated on them. A line of `cases` is arguments, ` = `, and the
+# results that are wanted. Needs the kit's command `rt`; the first build proves every crate below the program, which takes
+# some minutes.
 set -euo pipefail
 top="$(cd "$(dirname "$0")/.." && pwd)"
 rup="$top/crates/rup/out/rup"
@@ -13,15 +15,31 @@ fi
 [ -x "$rup" ] || { echo "rup was not built; 'rt check' in crates/rup says why" >&2; exit 1; }
 
 failed=0
-for folder in "$top"/examples/*/; do
-  name="$(basename "$folder")"
-  image="$(mktemp)"
-  if "$rup" replay "$folder"*.model "$folder"*.deriv >"$image" && od -An -v -tx4 -w4 "$image" | tr -d ' ' | cmp -s - "$folder/image.words"; then
-    echo "$name: replay wrote the wanted image of $(wc -c <"$image") bytes"
+image="$(mktemp)"
+trap 'rm -f "$image"' EXIT
+
+# name, what was done, what is wanted, what came
+compare() {
+  if [ "$3" = "$4" ]; then
+    echo "$1: $2 gives $3"
   else
-    echo "$name: the image is not the wanted one" >&2
+    echo "$1: $2 gives '$4', and '$3' is wanted" >&2
     failed=1
   fi
-  rm -f "$image"
+}
+
+for folder in "$top"/examples/*/; do
+  name="$(basename "$folder")"
+  if [ -e "$folder/$name.deriv" ]; then
+    "$rup" replay "$folder/$name.model" "$folder/$name.deriv" >"$image"
+  fi
+  while IFS= read -r line; do
+    read -r -a arguments <<<"${line% = *}"
+    wanted="${line##*= }"
+    if [ -e "$folder/$name.deriv" ]; then
+      compare "$name" "run ${arguments[*]}" "$wanted" "$("$rup" run "$image" ${arguments[@]+"${arguments[@]}"} 2>/dev/null | tr '\n' ' ' | sed 's/ $//')"
+    fi
+    compare "$name" "eval ${arguments[*]}" "$wanted" "$("$rup" eval "$folder/$name.model" ${arguments[@]+"${arguments[@]}"} | tr '\n' ' ' | sed 's/ $//')"
+  done <"$folder/cases"
 done
 exit "$failed"

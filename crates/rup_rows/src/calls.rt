@@ -20,7 +20,7 @@ pub struct Failing<'a> {
     pub notes: &'a [u32],
 }
 
-const NONE: Failing<'static> = Failing {
+pub const NONE: Failing<'static> = Failing {
     files: &[],
     out: &[],
     notes: &[],
@@ -70,7 +70,8 @@ pub fn call_with(alloc: Global, line: &str, name: &str, bytes: &[u8]) -> Result<
     call_over(alloc, line, held, &NONE)
 }
 
-fn call_over(
+/// The same over files of any bytes.
+pub fn call_over(
     alloc: Global,
     line: &str,
     held: List<(Text, Text)>,

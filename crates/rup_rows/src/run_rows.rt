@@ -1,5 +1,5 @@
-use crate::calls::{Ended, call_with};
-use rup_base::{NoMemory, Text};
+use crate::calls::{Ended, NONE, call_over, call_with};
+use rup_base::{List, NoMemory, Text};
 use std::alloc::Global;
 use std::test::Fail;
 
@@ -82,13 +82,45 @@ const NEEDS: [u32; 29] = [
     0x0000_006f,
 ];
 
-/// Runs the image of these words.
-fn run(alloc: Global, image: &[u32], line: &str) -> Result<Ended, NoMemory> {
+fn bytes_of(alloc: Global, image: &[u32]) -> Result<Text, NoMemory> {
     let mut bytes = Text::new(alloc);
     for word in image {
         bytes.extend_from_slice(&word.to_le_bytes())?;
     }
+    Ok(bytes)
+}
+
+/// Runs the image of these words.
+fn run(alloc: Global, image: &[u32], line: &str) -> Result<Ended, NoMemory> {
+    let bytes = bytes_of(alloc, image)?;
     call_with(alloc, line, "i", bytes.as_slice())
+}
+
+/// 40 times 2^20 bytes, which are 41,943,040.
+fn large(alloc: Global) -> Result<Text, NoMemory> {
+    let mut bytes = Text::from_slice(alloc, &[0; 40])?;
+    for _ in 0..20 {
+        let copy = Text::from_slice(alloc, bytes.as_slice())?;
+        bytes.extend_from_slice(copy.as_slice())?;
+    }
+    Ok(bytes)
+}
+
+#[test]
+fn arrays_are_too_large_together(rt: HostRuntime) -> Result<(), Fail> {
+    let mut held = List::new(rt.alloc());
+    held.push((
+        Text::from_slice(rt.alloc(), b"i")?,
+        bytes_of(rt.alloc(), &TWO)?,
+    ))?;
+    held.push((Text::from_slice(rt.alloc(), b"a")?, large(rt.alloc())?))?;
+    let ended = call_over(rt.alloc(), "run i a a", held, &NONE)?;
+    assert_eq!(rt; ended.status, 1);
+    assert_eq!(rt;
+        ended.notes.as_slice(),
+        b"refused 17 ArraysTooLarge 83886080\n".as_slice()
+    );
+    Ok(())
 }
 
 #[test]

@@ -1,13 +1,10 @@
 #!/usr/bin/env bash
 # Prints how many steps a second `rup run` takes on this machine: an image of two instructions, an addition and a jump
-# back to it, whose bound is 100,000,000 steps. Builds the program where it isn't built, as examples/run.sh does.
+# back to it, whose bound is 100,000,000 steps. examples/build.sh builds the program where it has to.
 set -euo pipefail
 top="$(cd "$(dirname "$0")/.." && pwd)"
 rup="$top/crates/rup/out/rup"
-if [ ! -x "$rup" ]; then
-  (cd "$top/crates/rup" && rt run >/dev/null 2>&1) || true
-fi
-[ -x "$rup" ] || { echo "rup was not built; 'rt check' in crates/rup says why" >&2; exit 1; }
+"$top/examples/build.sh"
 
 image="$(mktemp)"
 trap 'rm -f "$image"' EXIT

@@ -1,45 +1,57 @@
 #!/usr/bin/env bash
-# Builds the program where it isn't built, and runs each example: a model with a derivation is replayed, and its image
-# is run on the arguments of each case; every model is evaluated on them. A line of `cases` is arguments, ` = `, and the
-# results that are wanted. Needs the kit's command `rt`; the first build proves every crate below the program, which takes
-# some minutes.
+# Runs each example on the proved program, which examples/build.sh builds where it has to: a model with a derivation is
+# replayed, and its image is run on the arguments of each case; every model is evaluated on them. A line of `cases` is
+# arguments, ` = `, and the results that are wanted. A folder may have a script `check` of its own, which gets the
+# program's path; where it ends with status 77, its tools aren't there, and it counts as passed.
 set -euo pipefail
 top="$(cd "$(dirname "$0")/.." && pwd)"
 rup="$top/crates/rup/out/rup"
-if [ ! -x "$rup" ]; then
-  echo "building rup: proving the program and the crates below it"
-  # the program is run once without words, which is usage: status 2
-  (cd "$top/crates/rup" && rt run >"$top/crates/rup/out.log" 2>&1) || true
-  rm -f "$top/crates/rup/out.log"
-fi
-[ -x "$rup" ] || { echo "rup was not built; 'rt check' in crates/rup says why" >&2; exit 1; }
+"$top/examples/build.sh"
 
-failed=0
+answers=0
+wrong=0
 image="$(mktemp)"
 trap 'rm -f "$image"' EXIT
 
-# name, what was done, what is wanted, what came
+# what was done, what is wanted, what came
 compare() {
-  if [ "$3" = "$4" ]; then
-    echo "$1: $2 gives $3"
+  answers=$((answers + 1))
+  if [ "$2" = "$3" ]; then
+    echo "$1 gives $2"
   else
-    echo "$1: $2 gives '$4', and '$3' is wanted" >&2
-    failed=1
+    echo "$1 gives '$3', and '$2' is wanted" >&2
+    wrong=$((wrong + 1))
   fi
 }
 
+# the lines of results as one line
+results() { "$rup" "$@" 2>/dev/null | tr '\n' ' ' | sed 's/ $//'; }
+
 for folder in "$top"/examples/*/; do
   name="$(basename "$folder")"
-  if [ -e "$folder/$name.deriv" ]; then
-    "$rup" replay "$folder/$name.model" "$folder/$name.deriv" >"$image"
+  model="$folder$name.model"
+  derivation="$folder$name.deriv"
+  if [ -e "$derivation" ]; then
+    note="$("$rup" replay "$model" "$derivation" 2>&1 >"$image")" || true
+    echo "$name: $note"
   fi
   while IFS= read -r line; do
     read -r -a arguments <<<"${line% = *}"
     wanted="${line##*= }"
-    if [ -e "$folder/$name.deriv" ]; then
-      compare "$name" "run ${arguments[*]}" "$wanted" "$("$rup" run "$image" ${arguments[@]+"${arguments[@]}"} 2>/dev/null | tr '\n' ' ' | sed 's/ $//')"
+    if [ -e "$derivation" ]; then
+      compare "$name: run ${arguments[*]}" "$wanted" "$(results run "$image" ${arguments[@]+"${arguments[@]}"} || true)"
     fi
-    compare "$name" "eval ${arguments[*]}" "$wanted" "$("$rup" eval "$folder/$name.model" ${arguments[@]+"${arguments[@]}"} | tr '\n' ' ' | sed 's/ $//')"
+    compare "$name: eval ${arguments[*]}" "$wanted" "$(results eval "$model" ${arguments[@]+"${arguments[@]}"} || true)"
   done <"$folder/cases"
+  if [ -x "$folder/check" ]; then
+    status=0
+    "$folder/check" "$rup" || status=$?
+    case "$status" in
+      0) echo "$name: its check passed" ;;
+      77) echo "$name: its check was not made: its tools aren't here" ;;
+      *) echo "$name: its check failed with status $status" >&2; wrong=$((wrong + 1)) ;;
+    esac
+  fi
 done
-exit "$failed"
+echo "$answers answers, $wrong wrong"
+[ "$wrong" = 0 ]

@@ -1,4 +1,4 @@
--- A good image is served: its run returns, and the results are the model's.
+-- A good image is served: its run returns, and its results are printed as the model's.
 use Rattle.std.proofs.Common.{◌≡◌, ◌≢◌, refl, sym, ◌∙◌, ap, subst, arith, ℕ, zero, suc, ◌+◌, ◌*◌, ◌/◌, ◌%◌, ◌<◌, ◌≤◌, ◌^◌, min, List, [], ◌∷◌, ◌++◌, length, map, get_or, take, Option, Some, None, Result, Ok, Err, inl, inr, IfOk, true, false, ◌⊎◌}
 use Rattle.std.specs.Prelude.{slice_get, sum_by, ⊤}
 use Rattle.std.specs.List.{AllByRecursion, flat_map}

@@ -49,7 +49,7 @@ pub record Serves (i : Image) (args results : List Arg) (end : End) (s : State) 
   pub same : AllByRecursion HasWords results → results_of s i args ≡ results
 
 -- the run of a good image with arguments that meet its model, which is well typed, and give a bound of at most 10^9
--- returns with the model's results
+-- returns, and its results are printed as the model's
 abbrev pub GoodIsServed : Type 0
 GoodIsServed = (m : Model) (i : Image) (args : List Arg) (end : End) (s : State) → Well m → IsWithinLimits i → Good m i → Meets m args → total_size args ≤ array_limit
     → IsMachine (start_state i args) → at (symbol_values i.params args) i.bound ≤ step_limit

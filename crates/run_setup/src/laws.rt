@@ -14,7 +14,8 @@ pub fn loaded_is_ready()
 {}
 
 /// The run of a good image with arguments that meet its model, whose arrays have at most 67,108,864 bytes in sum and
-/// whose bound is at most 1,000,000,000, returns within the bound, and its results are the model's.
+/// whose bound is at most 1,000,000,000, returns within the bound, and its results are printed as the model's are; they are
+/// the model's where the elements of those are words.
 pub fn good_is_served()
     ensures { GoodIsServed }
 {}

@@ -22,11 +22,13 @@ use std::alloc::Global;
 #[derive(Clone, Copy, Debug, PartialEq, Eq)]
 pub struct Status(pub u8);
 
-/// Runs the command that the words name, over files and two sinks: `replay M D` writes to `out` the image for the
-/// model in the file M and its derivation in the file D.
+/// Runs the command that the words name, over files and two sinks. `replay M D` writes to `out` the image for the model
+/// in the file M and its derivation in the file D; `run IMAGE ARG*` the results of a run of the image; `eval M ARG*` the
+/// value of the model. A line goes to `notes` behind that.
 ///
 /// The status is 0 where the command is done, 1 where its input is refused, 2 where the words fit no row of the
-/// command table, 3 where a fetch failed, 4 where a write failed, and 5 where memory ran out before the first write.
+/// command table, 3 where a fetch failed, 4 where a write failed, 5 where memory ran out before the first write, and 7
+/// where a run trapped or was out of steps. No command comes to 6 yet.
 pub fn top<F: Files, O: Sink, N: Sink>(
     alloc: Global,
     words: &[String],
@@ -69,9 +71,10 @@ pub fn top<F: Files, O: Sink, N: Sink>(
         (record { before = O.faults out.old; now = O.faults out.new; taken = O.taken out.old; taken_now = O.taken out.new })
         (record { before = N.faults notes.old; now = N.faults notes.new; taken = N.taken notes.old; taken_now = N.taken notes.new }) result.0 }
 
-    // Served: where files are told, the run of an image that is good for a model, with arguments that meet the model and
-    // give a bound of at most 10^9, ends with status 0 and writes exactly the lines of the model's results to `out`,
-    // unless a count of faults rose or memory ran out. So does the evaluation of a model: the two write the same bytes.
+    // Served: where files are told, the run of an image that is good for a model, with arguments that meet the model, whose
+    // arrays have at most 67,108,864 bytes together, and that give a bound of at most 10^9, ends with status 0 and writes
+    // exactly the lines of the model's results to `out`, unless a count of faults rose or memory ran out. So does the
+    // evaluation of a model on such arguments, whatever the bound: the two write the same bytes.
     ensures runs_good { RunsGood (spec.command_of (map string_bytes words.now))
         (record { held = F.held files.old; before = F.faults files.old; now = F.faults files.new; last = F.last files.new })
         (record { before = O.faults out.old; now = O.faults out.new; taken = O.taken out.old; taken_now = O.taken out.new })

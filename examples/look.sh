@@ -1,0 +1,42 @@
+#!/usr/bin/env bash
+# A first look at the main job, in about a minute and without a proof: a model and its derivation are replayed to an
+# image, images are run, models are evaluated, and what is no derivation is refused. Where the program is built already, it
+# is used. Else the kit compiles and runs the worked cases of crates/rup_rows/data/look without proving them.
+set -euo pipefail
+top="$(cd "$(dirname "$0")/.." && pwd)"
+rup="$top/crates/rup/out/rup"
+rows="$top/crates/rup_rows"
+echo "Nothing is proved by this look: examples/run.sh builds the proved program."
+cd "$top/examples"
+
+# shows the command and what it writes, but for an image
+show() {
+  echo "\$ rup $*"
+  "$rup" "$@" || echo "(status $?)"
+}
+
+if "$top/examples/build.sh" look; then
+  echo "The program that is built already, on the files of examples/:"
+  work="$(mktemp -d)"
+  trap 'rm -rf "$work"' EXIT
+  cat sum/sum.model sum/sum.deriv
+  echo "\$ rup replay sum/sum.model sum/sum.deriv > sum.image"
+  "$rup" replay sum/sum.model sum/sum.deriv >"$work/sum.image"
+  (cd "$work" && show run sum.image 40 2)
+  show eval sum/sum.model 40 2
+  show eval fnv1a/fnv1a.model hex:61
+  show eval utf8/utf8.model hex:e282ac00
+  show replay literal/literal.model sum/sum.deriv
+  exit
+fi
+
+echo "The program isn't built. The kit compiles the worked cases and runs them without a proof; this takes about a minute."
+found="$(mktemp)"
+trap 'rm -f "$found"' EXIT
+if (cd "$rows" && rt try --data look=data/look -- look) >"$found" 2>&1 && grep -q '^[0-9]* cases, 0 different$' "$found"; then
+  sed -n '/^look$/,/^[0-9]* cases/p' "$found" | sed 1d
+else
+  tail -n 3 "$found"
+  echo "The run didn't end as it should. These are the stored answers, which the gate compares with the program's:"
+  sed -n '/^look$/,/^usage$/p' "$rows/stdout" | sed '1d;$d'
+fi

@@ -13,6 +13,3 @@ pub use listed::Listed;
 pub use names::name_is_read;
 pub use rule::Rule;
 pub use tree::{Block, Derivation, ExprNode, Step, StmtNode};
-
-#[cfg(test)]
-mod tests;

@@ -42,8 +42,11 @@ fn counts(model: &Model) -> [u32; 4] {
 #[test]
 fn copies_are_made(rt: HostRuntime) -> Result<(), Failed> {
     let original = table(rt.alloc())?;
-    let copy = copy_expr(rt.alloc(), &original)?;
-    assert_eq!(rt; matches!(copy, Expr::Tab(Scalar::Word, _, _)), true);
+    let Expr::Tab(Scalar::Word, entries, at) = copy_expr(rt.alloc(), &original)? else {
+        return Err("a table of words".into());
+    };
+    assert_eq!(rt; entries.as_slice(), [7].as_slice());
+    assert!(rt; matches!(*at, Expr::Lit(0)), "the place 0");
     Ok(())
 }
 
@@ -56,6 +59,9 @@ fn a_model_is_counted(rt: HostRuntime) -> Result<(), Failed> {
     assert_eq!(rt; counts(&model), [1, 2, 1, 4]);
     assert_eq!(rt; over_limit(&model).is_none(), true);
     let names = first_names(rt.alloc(), &model)?;
-    assert_eq!(rt; names.len(), 1);
+    let [only] = names.as_slice() else {
+        return Err("one name".into());
+    };
+    assert_eq!(rt; only.text(), b"m".as_slice());
     Ok(())
 }

@@ -6,7 +6,7 @@ ghost use Rattle.model_syntax.specs.Spelling.{expr_spellable, stmt_spellable};
 use crate::value;
 use model_syntax::{Expr, Le, Lin, Model, Op, Param, Ret, Stmt, over_limit};
 use model_types::{Typed, check_types};
-use rup_base::{Arg, ArgFault, Args, Box, Fail, List, Name, NoMemory, Refusal};
+use rup_base::{Arg, Args, Box, List, Name, NoMemory};
 use std::alloc::Global;
 use std::test::Fail as Failed;
 
@@ -83,18 +83,5 @@ fn a_model_has_its_value(rt: HostRuntime) -> Result<(), Failed> {
     let model = typed(rt.alloc())?;
     let results = value(rt.alloc(), &model, &args(rt.alloc(), 0xffff_ffff, 1)?)?;
     assert_eq!(rt; matches!(results.as_slice(), [Arg::Word(0)]), true);
-    Ok(())
-}
-
-#[test]
-fn a_requirement_is_not_met(rt: HostRuntime) -> Result<(), Failed> {
-    let model = typed(rt.alloc())?;
-    let refused = matches!(
-        value(rt.alloc(), &model, &args(rt.alloc(), 1, 2)?),
-        Err(Fail::Refused(Refusal::BadArguments {
-            which: ArgFault::Require(0)
-        }))
-    );
-    assert_eq!(rt; refused, true);
     Ok(())
 }

@@ -79,16 +79,6 @@ fn step(alloc: Global, rule: Rule) -> Step
     }
 }
 
-fn literal(alloc: Global) -> ExprNode
-    ensures shaped { expr_shaped result ≡ true }
-    ensures size { expr_size result ≡ 1 }
-{
-    ExprNode {
-        step: step(alloc, Rule::ELit),
-        kids: List::new(alloc),
-    }
-}
-
 fn variable(alloc: Global) -> ExprNode
     ensures shaped { expr_shaped result ≡ true }
     ensures size { expr_size result ≡ 1 }
@@ -160,20 +150,6 @@ fn derivation(alloc: Global, e: ExprNode, local: i64) -> Result<Derivation, Fail
         model: name(alloc, b"m")?,
         body: block(alloc, e, local)?,
     })
-}
-
-#[test]
-fn a_literal(rt: HostRuntime) -> Result<(), Failed> {
-    let model = typed(rt.alloc(), List::new(rt.alloc()), Expr::Lit(7))?;
-    let derivation = derivation(rt.alloc(), literal(rt.alloc()), 0)?;
-    if !is_plain(model.model()) {
-        return Err("the model is plain".into());
-    }
-    let replayed = plain_image(rt.alloc(), &model, &derivation)?;
-    assert_eq!(rt; replayed.checked.weight, 53);
-    assert_eq!(rt; replayed.locals, 1);
-    assert_eq!(rt; replayed.depth, 1);
-    Ok(())
 }
 
 #[test]

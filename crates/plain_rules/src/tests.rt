@@ -5,11 +5,11 @@ ghost use Rattle.model_syntax.specs.Spelling.{expr_spellable, stmt_spellable};
 ghost use Rattle.deriv_tree.specs.Measure.{expr_size, stmt_size, block_size};
 ghost use Rattle.deriv_tree.specs.Shape.{IsWhole, expr_shaped, stmt_shaped, block_shaped};
 
-use crate::{Checked, derive_plain, is_plain};
+use crate::{derive_plain, is_plain};
 use deriv_tree::{Block, Derivation, ExprNode, Rule, Step, StmtNode};
 use model_syntax::{Expr, Model, Op, Param, Ret, Stmt, over_limit};
 use model_types::{Typed, check_types};
-use rup_base::{Box, Fail, List, Name, NoMemory, Refusal};
+use rup_base::{Box, List, Name, NoMemory};
 use std::alloc::Global;
 use std::test::Fail as Failed;
 
@@ -133,27 +133,19 @@ fn block(alloc: Global, local: i64) -> Result<Block, NoMemory>
 }
 
 /// The sum is kept in a local.
-fn derivation(alloc: Global, model: &[u8], local: i64) -> Result<Derivation, Failed>
+fn derivation(alloc: Global, local: i64) -> Result<Derivation, Failed>
     ensures { IfOk result (λ d. IsWhole d) }
 {
     Ok(Derivation {
-        model: name(alloc, model)?,
+        model: name(alloc, b"sum")?,
         body: block(alloc, local)?,
     })
-}
-
-/// Whether the check fails with the condition at the first node.
-fn is_refused(answer: Result<Checked, Fail>, wanted: u32) -> bool {
-    match answer {
-        Err(Fail::Refused(Refusal::NoInstance { node: 0, cond })) => cond == wanted,
-        _ => false,
-    }
 }
 
 #[test]
 fn a_sum_is_derived(rt: HostRuntime) -> Result<(), Failed> {
     let model = typed(rt.alloc())?;
-    let derivation = derivation(rt.alloc(), b"sum", 2)?;
+    let derivation = derivation(rt.alloc(), 2)?;
     if !is_plain(&model.inner) {
         return Err("the model is plain".into());
     }
@@ -161,29 +153,5 @@ fn a_sum_is_derived(rt: HostRuntime) -> Result<(), Failed> {
     assert_eq!(rt; checked.weight, 59);
     assert_eq!(rt; checked.args, 2);
     assert_eq!(rt; checked.rets.as_slice(), [2].as_slice());
-    Ok(())
-}
-
-#[test]
-fn a_local_of_another_name_is_refused(rt: HostRuntime) -> Result<(), Failed> {
-    let model = typed(rt.alloc())?;
-    let derivation = derivation(rt.alloc(), b"sum", 0)?;
-    if !is_plain(&model.inner) {
-        return Err("the model is plain".into());
-    }
-    let result = derive_plain(rt.alloc(), &model, &derivation);
-    assert_eq!(rt; is_refused(result, 4), true);
-    Ok(())
-}
-
-#[test]
-fn a_derivation_of_another_model_is_refused(rt: HostRuntime) -> Result<(), Failed> {
-    let model = typed(rt.alloc())?;
-    let derivation = derivation(rt.alloc(), b"product", 2)?;
-    if !is_plain(&model.inner) {
-        return Err("the model is plain".into());
-    }
-    let result = derive_plain(rt.alloc(), &model, &derivation);
-    assert_eq!(rt; is_refused(result, 0), true);
     Ok(())
 }

@@ -11,6 +11,3 @@ pub use decoding::decode;
 pub use encoding::{encode, one_instruction_a_word};
 pub use fields::{Bits12, Imm12, Imm13, Imm20, Imm21, Reg, Shamt};
 pub use instruction::Instr;
-
-#[cfg(test)]
-mod tests;

@@ -1,4 +1,6 @@
 pub mod Memory
+mod Bounds
+pub mod laws
 pub mod Registers
 pub mod Rows
 pub mod Runs

@@ -7,4 +7,3 @@ pub mod Runs
 pub mod Table
 pub mod Reached
 pub mod Steps
-pub mod Stores

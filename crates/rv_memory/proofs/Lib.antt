@@ -1,1 +1,4 @@
-pub mod Lookup
+mod Lookup
+mod Several
+mod Found
+mod Stored

@@ -2,7 +2,8 @@
 -- (RISC-V Unprivileged ISA 20191213, sections 1.4 and 2.1).
 use Rattle.std.specs.Prelude.{ℕ, List, ◌==◌, if◌then◌else◌, slice_index, slice_set}
 use Rattle.rv_memory.specs.Ranges.{Bytes}
-unfoldable pub use Rattle.rv_memory.specs.Numbers.{joined, number_at, with_number}
+pub use Rattle.rv_memory.specs.Numbers.{joined}
+unfoldable pub use Rattle.rv_memory.specs.Numbers.{number_at, with_number}
 
 -- thirty-two registers, the place of the next instruction, and the memory
 pub record State : Type 0 where

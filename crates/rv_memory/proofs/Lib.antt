@@ -1,3 +1,4 @@
+pub mod laws
 mod Lookup
 mod Several
 mod Found

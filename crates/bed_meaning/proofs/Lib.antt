@@ -1,3 +1,3 @@
-mod Kept
 mod Steady
 mod Turn
+mod Numbers

@@ -7,3 +7,4 @@ pub mod View
 pub mod Run
 pub mod Causes
 pub mod Machines
+pub mod Laws

@@ -11,7 +11,7 @@ mod running;
 
 pub use cause::Cause;
 pub use machine::Machine;
-pub use running::End;
+pub use running::{End, steps_keep_machines};
 
 #[cfg(test)]
 mod tests;

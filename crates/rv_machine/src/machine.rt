@@ -8,7 +8,7 @@ ghost use Rattle.rv_machine.specs.Step as table;
 ghost use Rattle.rv_machine.specs.Effect.{effect};
 ghost use Rattle.rv_machine.specs.View.{state_of, answer};
 
-use crate::access::{read_byte, read_half, read_word, write_byte, write_half, write_word};
+use crate::access::{read_byte, write_byte, write_half};
 use crate::arithmetic::{
     high_mixed, high_signed, high_unsigned, is_less_signed, one_if, product, quotient,
     quotient_signed, remainder, remainder_signed, shift_left, shift_right, shift_signed,
@@ -34,7 +34,7 @@ impl Machine {
         if self.pc % 4 != 0 {
             return Err(Cause::FetchMisaligned);
         }
-        let Some(word) = read_word(&self.mem, self.pc) else {
+        let Some(word) = self.mem.get_four(self.pc) else {
             return Err(Cause::FetchOutside);
         };
         let Some(instruction) = decode(word) else {
@@ -286,7 +286,7 @@ impl Machine {
         if at % 2 != 0 {
             return Err(Cause::LoadMisaligned);
         }
-        read_half(&self.mem, at).ok_or(Cause::LoadOutside)
+        self.mem.get_two(at).ok_or(Cause::LoadOutside)
     }
 
     #[tactic(auto, unfolding(crate::specs::Step::loaded))]
@@ -296,7 +296,7 @@ impl Machine {
         if at % 4 != 0 {
             return Err(Cause::LoadMisaligned);
         }
-        read_word(&self.mem, at).ok_or(Cause::LoadOutside)
+        self.mem.get_four(at).ok_or(Cause::LoadOutside)
     }
 
     #[tactic(auto, unfolding(crate::specs::Step::stores))]
@@ -334,7 +334,7 @@ impl Machine {
         if at % 4 != 0 {
             return Err(Cause::StoreMisaligned);
         }
-        if !write_word(&mut self.mem, at, value) {
+        if !self.mem.set_four(at, value) {
             return Err(Cause::StoreOutside);
         }
         self.pc = self.pc.wrapping_add(4);

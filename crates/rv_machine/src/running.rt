@@ -1,6 +1,7 @@
 // Runs of steps.
 
 ghost use Rattle.std.specs.Prelude.{◌≡◌};
+ghost use Rattle.rv_machine.specs.Laws.{KeepsMachines};
 ghost use Rattle.rv_machine.specs.Run.{Ran};
 ghost use Rattle.rv_machine.specs.View.{state_of};
 
@@ -43,3 +44,9 @@ impl Machine {
         }
     }
 }
+
+/// The law that steps lead from a machine state, whose registers and program counter are words and whose bytes are
+/// bytes, to machine states.
+pub fn steps_keep_machines()
+    ensures { KeepsMachines }
+{}

@@ -1,1 +1,5 @@
-pub mod Lookup
+pub mod laws
+mod Lookup
+mod Several
+mod Found
+mod Stored

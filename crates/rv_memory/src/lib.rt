@@ -3,6 +3,7 @@
 #![tactic(auto)]
 
 mod byte_map;
+mod numbers;
 mod region;
 
 pub use byte_map::Memory;

@@ -1,5 +1,5 @@
 use Rattle.std.proofs.Common.{◌∙◌, sym}
-use Rattle.rv_memory.proofs.Lookup.{found_low, found_high, read_none, read_at}
+use Rattle.rv_memory.proofs.Found.{found_low, found_high, read_none, read_at}
 use Rattle.rv_memory.proofs.region.read.Goals as goal
 
 pub returns-in_err-i : goal.returns-in_err-i

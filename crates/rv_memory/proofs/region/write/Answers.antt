@@ -1,5 +1,5 @@
-use Rattle.std.proofs.Common.{◌∙◌, sym, refl, arith}
-use Rattle.rv_memory.proofs.Lookup.{found_low, found_high, read_none, write_found, found_some}
+use Rattle.std.proofs.Common.{◌∙◌, sym, refl, arith, length-set}
+use Rattle.rv_memory.proofs.Found.{found_low, found_high, read_none, write_at, found_some, apart_set}
 use Rattle.rv_memory.proofs.region.write.Goals as goal
 
 pub returns-in_default-clause-found : goal.returns-in_default-clause-found
@@ -16,4 +16,8 @@ returns-clause-found c =
     (λ _. found_some c.args.at c.args.regions.now c.in-Some.i c.index-regions-i.result (sym c.find.ensures ∙ c.in-Some.is), λ _. refl)
 
 pub returns-clause-value : goal.returns-clause-value
-returns-clause-value c = write_found c.args.at c.args.byte c.args.regions.now c.in-Some.i c.index-regions-i.result (sym c.find.ensures ∙ c.in-Some.is)
+returns-clause-value c = write_at c.args.at c.args.byte c.args.regions.now c.in-Some.i c.index-regions-i.result (sym c.find.ensures ∙ c.in-Some.is)
+
+pub returns-clause-apart : goal.returns-clause-apart
+returns-clause-apart c =
+    apart_set c.args.at c.args.regions.now c.in-Some.i c.index-regions-i.result _ (sym c.find.ensures ∙ c.in-Some.is) refl (length-set _ _ _)

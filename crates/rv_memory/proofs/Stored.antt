@@ -3,7 +3,7 @@ use Rattle.std.proofs.Common.{◌≡◌, ℕ, zero, suc, ◌+◌, ◌/◌, ◌%�
 use Rattle.std.specs.Ordering.{nat_cmp, eq_by_cmp}
 use Rattle.std.specs.Cmp.{nat_cmp_total}
 use Rattle.std.specs.FinMap.{get, insert, get-insert}
-use Rattle.rv_machine.specs.State.{joined, number_at, with_number}
+use Rattle.rv_memory.specs.Numbers.{joined, number_at, with_number}
 use Rattle.rv_memory.specs.Ranges.{Bytes}
 
 first_of : (x y : Option ℕ) → is_some (joined x y) ≡ true → is_some x ≡ true
@@ -16,7 +16,7 @@ rest_of (Some low) (Some high) e = refl
 rest_of (Some low) None e = e
 rest_of None y e = absurd (cc)
 
-both_are : (x y : Option ℕ) → is_some x ≡ true → is_some y ≡ true → is_some (joined x y) ≡ true
+pub both_are : (x y : Option ℕ) → is_some x ≡ true → is_some y ≡ true → is_some (joined x y) ≡ true
 both_are (Some low) (Some high) e f = refl
 both_are (Some low) None e f = f
 both_are None y e f = e

@@ -1,3 +1,2 @@
 mod Cancelling
-mod Products
 pub mod Terms

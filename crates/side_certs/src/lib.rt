@@ -6,7 +6,7 @@
 mod certificate;
 mod closing;
 mod form;
-mod laws;
+pub mod laws;
 
 pub use certificate::{Cert, Entry};
 pub use closing::closes;

@@ -15,15 +15,23 @@ times_sum a b c =
     let q : (up (b +ℤ c) + down b + down c) * down a ≡ (down (b +ℤ c) + up b + up c) * down a = ap (λ (n : ℕ). n * down a) (sum_is_lem b c) in
     omega (arith, ints, p, q)
 
-pub times_times : (m : ℕ) (c : ℤ) (n : ℕ) → (pos m *ℤ c) *ℤ pos n ≡ pos m *ℤ (c *ℤ pos n)
-times_times m c n =
-    let p = product_is (pos m) c in
+-- factors group
+pub times_times : (k c : ℤ) (n : ℕ) → (k *ℤ c) *ℤ pos n ≡ k *ℤ (c *ℤ pos n)
+times_times k c n =
+    let p = product_is k c in
     let q = product_is c (pos n) in
-    let p_up : up (pos m *ℤ c) * n ≡ (m * up c + 0 * down c) * n = ap (λ (x : ℕ). x * n) p.0 in
-    let p_down : down (pos m *ℤ c) * n ≡ (m * down c + 0 * up c) * n = ap (λ (x : ℕ). x * n) p.1 in
-    let q_up : m * up (c *ℤ pos n) ≡ m * (up c * n + down c * 0) = ap (λ (x : ℕ). m * x) q.0 in
-    let q_down : m * down (c *ℤ pos n) ≡ m * (up c * 0 + down c * n) = ap (λ (x : ℕ). m * x) q.1 in
-    omega (arith, ints, p_up, p_down, q_up, q_down)
+    let whole = product_is k (c *ℤ pos n) in
+    let p_up : up (k *ℤ c) * n ≡ (up k * up c + down k * down c) * n = ap (λ (x : ℕ). x * n) p.0 in
+    let p_down : down (k *ℤ c) * n ≡ (up k * down c + down k * up c) * n = ap (λ (x : ℕ). x * n) p.1 in
+    let up_up : up k * up (c *ℤ pos n) ≡ up k * (up c * n + down c * 0) = ap (λ (x : ℕ). up k * x) q.0 in
+    let down_up : down k * up (c *ℤ pos n) ≡ down k * (up c * n + down c * 0) = ap (λ (x : ℕ). down k * x) q.0 in
+    let up_down : up k * down (c *ℤ pos n) ≡ up k * (up c * 0 + down c * n) = ap (λ (x : ℕ). up k * x) q.1 in
+    let down_down : down k * down (c *ℤ pos n) ≡ down k * (up c * 0 + down c * n) = ap (λ (x : ℕ). down k * x) q.1 in
+    omega (arith, ints, p_up, p_down, up_up, down_up, up_down, down_down, whole.0, whole.1)
+
+pub times_nothing : (k : ℤ) → k *ℤ pos 0 ≡ pos 0
+times_nothing (pos n) = omega (arith, ints)
+times_nothing (negsuc n) = omega (arith, ints)
 
 -- d times a number is at least -(d - 1) only if the number is at least 0
 pub not_below : (d : ℕ) (g : ℤ) → 1 ≤ d → neg_ℤ (pos (d - 1)) ≤ℤ (pos d *ℤ g) → pos 0 ≤ℤ g

@@ -1,0 +1,4 @@
+pub mod Coefficients
+pub mod Limits
+pub mod Products
+pub mod Values

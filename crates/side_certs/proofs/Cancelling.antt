@@ -298,7 +298,7 @@ cancels_all_where rest zeros facts tops (e ∷ es) = both (by_form (named facts 
     by_form None = refl
     by_form (Some f) = cancels_where rest zeros f.terms
 
-closes_parts : (facts : List LinearForm) (tops : List ℕ) (goal : LinearForm) (cert : Cert) → closes facts tops goal cert ≡ true → Closes facts tops goal cert
+pub closes_parts : (facts : List LinearForm) (tops : List ℕ) (goal : LinearForm) (cert : Cert) → closes facts tops goal cert ≡ true → Closes facts tops goal cert
 closes_parts facts tops goal cert test =
     let p = and_parts (in_range cert && all_named facts tops cert.entries && leaves_number facts tops goal cert) (is_enough cert.d (left (number_at None) facts tops goal cert)) test in
     let q = and_parts (in_range cert && all_named facts tops cert.entries) (leaves_number facts tops goal cert) p.0 in

@@ -172,7 +172,7 @@ impl Form {
     }
 
     /// Puts a term behind the last one, where it has room; a coefficient 0 leaves nothing to put.
-    fn push(&mut self, symbol: u32, coefficient: i128) -> bool
+    pub(crate) fn push(&mut self, symbol: u32, coefficient: i128) -> bool
         requires { linear.rises_from 0 (self.old.terms ++ linear.keep symbol coefficient []) ≡ true }
         ensures room { result ≡ linear.has_room self.old coefficient }
         ensures put { self.new ≡ (if result then linear.put_behind self.old symbol coefficient else self.old) }
@@ -192,7 +192,7 @@ impl Form {
     }
 
     /// Each form passes no limit.
-    fn done(self) -> Option<Form>
+    pub(crate) fn done(self) -> Option<Form>
         ensures { result ≡ linear.within self }
     {
         let _ = &self.constant;
@@ -206,7 +206,7 @@ impl Form {
     }
 
     /// The number alone, of which the terms of a result are put behind one another.
-    fn start(k: i128) -> Option<Form>
+    pub(crate) fn start(k: i128) -> Option<Form>
         ensures within { result ≡ linear.within (linear.constant k) }
         ensures started { MatchOption result (linear.is_small k ≡ false) (λ f. (f.constant ≡ k) × (f.terms ≡ [])) }
     {

@@ -5,11 +5,13 @@
 
 mod certificate;
 mod closing;
+mod combining;
 mod form;
 pub mod laws;
 
 pub use certificate::{Cert, Entry};
 pub use closing::closes;
+pub use combining::{judged, Combination};
 pub use form::Form;
 pub use laws::closing_gives_goal;
 

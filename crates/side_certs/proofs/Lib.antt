@@ -1,2 +1,3 @@
 mod Cancelling
+mod Summing
 pub mod Terms

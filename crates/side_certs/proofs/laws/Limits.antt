@@ -39,7 +39,7 @@ rises_parts least t ts rise =
 pub rises_made : (least : ℕ) (t : ℕ × ℤ) (ts : List (ℕ × ℤ)) → least ≤ t.0 → int_eq t.1 (pos 0) ≡ false → rises_from (t.0 + 1) ts ≡ true → rises_from least (t ∷ ts) ≡ true
 rises_made least t ts le not_zero rest = both (both (le-leb _ _ le) (rw not_zero refl)) rest
 
-rises_lower : (least less : ℕ) (ts : List (ℕ × ℤ)) → less ≤ least → rises_from least ts ≡ true → rises_from less ts ≡ true
+pub rises_lower : (least less : ℕ) (ts : List (ℕ × ℤ)) → less ≤ least → rises_from least ts ≡ true → rises_from less ts ≡ true
 rises_lower least less [] le rise = refl
 rises_lower least less (t ∷ ts) le rise = let p = rises_parts least t ts rise in rises_made less t ts (omega arith) p.1 p.2
 
@@ -100,3 +100,21 @@ coefficient_before s least (t ∷ ts) before rise =
     let rest : coefficient s ts ≡ pos 0 = coefficient_before s (t.0 + 1) ts (omega (arith, p.0)) p.2 in
     rw (other, rest) refl
 
+
+-- a coefficient of small terms whose symbols rise is small
+pub small_coefficient : (s least : ℕ) (ts : List (ℕ × ℤ)) → rises_from least ts ≡ true → all_small ts ≡ true → is_small (coefficient s ts) ≡ true
+small_coefficient s least [] rise all = refl
+small_coefficient s least (t ∷ ts) rise all = by_test (nat_eq t.0 s) refl (small_coefficient s (t.0 + 1) ts p.2 q.1) where
+  p : (least ≤ t.0) × (int_eq t.1 (pos 0) ≡ false) × (rises_from (t.0 + 1) ts ≡ true)
+  p = rises_parts least t ts rise
+
+  q : (is_small t.1 ≡ true) × (all_small ts ≡ true)
+  q = and_parts (is_small t.1) (all_small ts) all
+
+  by_test : (same : Bool) → nat_eq t.0 s ≡ same → is_small (coefficient s ts) ≡ true → is_small (coefficient s (t ∷ ts)) ≡ true
+  by_test true e rest =
+      let before : s < t.0 + 1 = grind (arith, nat_tests) in
+      let after : coefficient s ts ≡ pos 0 = coefficient_before s (t.0 + 1) ts before p.2 in
+      let alone : t.1 +ℤ pos 0 ≡ t.1 = omega (arith, ints) in
+      rw (e, after, alone) q.0
+  by_test false e rest = let other : pos 0 +ℤ coefficient s ts ≡ coefficient s ts = omega (arith, ints) in rw (e, other) rest

@@ -1,6 +1,7 @@
 -- Products of whole numbers: sums, signs and bounds.
-use Rattle.std.proofs.Common.{◌≡◌, ℕ, suc, ◌+◌, ◌-◌, ◌*◌, ◌≤◌, ℤ, pos, negsuc, ◌+ℤ◌, ◌*ℤ◌, neg_ℤ, ◌≤ℤ◌, ap, arith, mul-le-mul}
-use Rattle.std.proofs.lemmas.Int.{ints}
+use Rattle.std.proofs.Common.{◌≡◌, ℕ, suc, ◌+◌, ◌-◌, ◌*◌, ◌≤◌, ℤ, pos, negsuc, ◌+ℤ◌, ◌*ℤ◌, neg_ℤ, ◌≤ℤ◌, ap, arith, mul-le-mul, nat_abs}
+use Rattle.std.proofs.lemmas.Int.{ints, unsigned_abs-mul}
+use Rattle.side_certs.specs.Closes.{Near}
 use borrow.Author.Differences.{up, down, sum_is_lem, product_is}
 
 pub sum_times : (a b c : ℤ) → (a +ℤ b) *ℤ c ≡ (a *ℤ c) +ℤ (b *ℤ c)
@@ -45,3 +46,14 @@ not_below d (negsuc n) some enough =
 pub product_not_below : (m : ℕ) (z : ℤ) → pos 0 ≤ℤ z → pos 0 ≤ℤ (pos m *ℤ z)
 product_not_below m (pos n) some = omega (arith, ints)
 product_not_below m (negsuc n) some = absurd (omega (arith, ints, some))
+
+-- a product has at most the product of the magnitudes
+pub near_product : (m n : ℕ) (a b : ℤ) → Near m a → Near n b → Near (m * n) (a *ℤ b)
+near_product m n a b one two = near_of (a *ℤ b) (m * n) (let sizes = unsigned_abs-mul a b in let most = mul-le-mul (size a m one) (size b n two) in omega (arith, sizes, most)) where
+  size : (z : ℤ) (k : ℕ) → Near k z → nat_abs z ≤ k
+  size (pos i) k near = omega (arith, ints, near.1)
+  size (negsuc i) k near = omega (arith, ints, near.0)
+
+  near_of : (z : ℤ) (k : ℕ) → nat_abs z ≤ k → Near k z
+  near_of (pos i) k less = (omega (arith, ints), omega (arith, ints, less))
+  near_of (negsuc i) k less = (omega (arith, ints, less), omega (arith, ints))

@@ -1,9 +1,10 @@
 -- A form from its symbols in order: what is left of it from a symbol on.
-use Rattle.std.proofs.Common.{◌≡◌, ℕ, ◌+◌, ◌<◌, ◌≤◌, Bool, true, false, List, [], ◌∷◌, ℤ, pos, ◌+ℤ◌, nat_eq, nat_lt, if◌then◌else◌, refl, ap, subst, arith}
+use Rattle.std.proofs.Common.{◌≡◌, ℕ, ◌+◌, ◌<◌, ◌≤◌, Bool, true, false, List, [], ◌∷◌, ◌++◌, ℤ, pos, ◌+ℤ◌, nat_eq, nat_lt, if◌then◌else◌, refl, sym, ap, ◌∙◌, subst, arith}
 use Rattle.std.specs.Ordering.{int_eq}
 use Rattle.std.proofs.lemmas.Bool.{ltb-true, ltb-false}
 use Rattle.std.proofs.lemmas.Bool.Decides.{nat_tests}
 use Rattle.std.proofs.lemmas.Int.{ints}
+use Rattle.std.proofs.lemmas.List.{append-nil}
 use Rattle.side_certs.specs.LinearForm.{rises_from, keep, coefficient}
 use Rattle.side_certs.proofs.laws.Limits.{rises_parts, coefficient_before}
 
@@ -90,3 +91,12 @@ onward_next n s least (t ∷ ts) rise le none = by_place (nat_lt t.0 n) refl (na
       let here : onward n ts ≡ ts = onward_all n (t.0 + 1) ts (let from : n ≤ t.0 = ltb-false _ _ b in omega (arith, from)) p.2 in
       let behind : onward (s + 1) ts ≡ ts = onward_all (s + 1) (t.0 + 1) ts (omega (arith, far)) p.2 in
       rw (none_here, b, kept, here, behind) refl
+
+-- what is put out, the next symbol, and what is left behind it, are the whole
+pub next_whole : (out whole : List (ℕ × ℤ)) (n s : ℕ) → rises_from 0 whole ≡ true → n ≤ s → ((r : ℕ) → n ≤ r → r < s → coefficient r whole ≡ pos 0)
+    → out ++ onward n whole ≡ whole → out ++ keep s (coefficient s whole) (onward (s + 1) whole) ≡ whole
+next_whole out whole n s rise le none so_far = ap (λ (ts : List (ℕ × ℤ)). out ++ ts) (sym (onward_next n s 0 whole rise le none)) ∙ so_far
+
+-- where nothing is left, what is put out is the whole
+pub end_whole : (out whole : List (ℕ × ℤ)) (n : ℕ) → rises_from 0 whole ≡ true → ((r : ℕ) → n ≤ r → coefficient r whole ≡ pos 0) → out ++ onward n whole ≡ whole → out ≡ whole
+end_whole out whole n rise none so_far = sym (append-nil out) ∙ ap (λ (ts : List (ℕ × ℤ)). out ++ ts) (sym (onward_end n 0 whole rise none)) ∙ so_far

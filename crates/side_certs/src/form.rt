@@ -54,19 +54,6 @@ impl Form {
         }
     }
 
-    /// The form `top - s`.
-    pub(crate) fn below(top: u32, s: u32) -> Form
-        ensures { result ≡ linear.below top s }
-    {
-        let mut slots = [(0, 0); 16];
-        slots[0] = (s, -1);
-        Form {
-            constant: i64::from(top),
-            count: 1,
-            slots,
-        }
-    }
-
     /// The number that is added to the terms.
     pub fn constant_part(&self) -> i64
         ensures constant { result ≡ self.now.constant }

@@ -11,7 +11,7 @@ use Rattle.rup_base.specs.declared.refusal.TypeWhy.{TypeWhy}
 use Rattle.rup_base.specs.declared.refusal.TypeWhy.TheVariants as why
 use Rattle.side_certs.specs.LinearForm.{LinearForm, constant, symbol, is_small, is_within, rises_from, coefficient, share}
 use Rattle.side_certs.specs.LinearForm as linear
-use Rattle.side_certs.proofs.Terms.{merge_rises, times_rise, rises_made, and_parts}
+use Rattle.side_certs.proofs.laws.Limits.{merge_rises, times_rise, rises_made, and_parts}
 use Rattle.model_syntax.specs.declared.expr.Scalar.{Scalar}
 use Rattle.model_syntax.specs.declared.expr.Scalar.TheVariants.{Word, Byte}
 use Rattle.model_syntax.specs.declared.stmt.Lin.{Lin, Lin-F, map-Lin, roll-Lin, fold-roll-Lin, ind-Lin}
@@ -35,7 +35,7 @@ use Rattle.sym_heap.specs.declared.parts.Held.{Held}
 use Rattle.sym_heap.specs.Context.{Context, held, is_scalar}
 use Rattle.sym_heap.specs.Sides.{form_in, side, side_step, limited_side, limited_step, Formed, AllFormed}
 use Rattle.sym_heap.specs.Start.{empty, next_local, with_argument, with_pointer, with_array, with_param, with_params}
-use Rattle.sym_heap.proofs.Coefficients.{coefficient_merge, coefficient_times, below_merge, below_times, keeps_limits}
+use Rattle.side_certs.proofs.laws.Coefficients.{coefficient_merge, coefficient_times, below_merge, below_times, keeps_limits}
 use Rattle.sym_heap.proofs.Declared.{Answered, answered, at_place, declared, Declared, declared_parts, StartScope, start_scope, few_registers}
 use Rattle.sym_heap.proofs.Limits as limits
 use Rattle.sym_heap.proofs.Starting.{after_params}

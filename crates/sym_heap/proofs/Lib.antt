@@ -1,10 +1,8 @@
 mod Arrivals
 mod Arriving
-mod Coefficients
 mod Declared
 mod Firsts
 mod Fitting
 mod Formed
 mod Limits
 mod Starting
-mod Values

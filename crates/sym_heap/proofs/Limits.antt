@@ -8,14 +8,14 @@ use Rattle.rup_base.specs.declared.refusal.TypeWhy.{TypeWhy}
 use Rattle.rup_base.specs.declared.refusal.TypeWhy.TheVariants.{WideForm}
 use Rattle.side_certs.specs.LinearForm.{LinearForm, constant, symbol, is_small, is_within, within, rises_from, merge, terms_times, coefficient, share}
 use Rattle.side_certs.specs.LinearForm as linear
-use Rattle.side_certs.proofs.Terms.{merge_rises, times_rise}
+use Rattle.side_certs.proofs.laws.Limits.{merge_rises, times_rise}
 use Rattle.model_syntax.specs.declared.scope.Term.{Term}
 use Rattle.model_syntax.specs.declared.scope.Linear.{Linear}
 use Rattle.model_syntax.specs.Linear.{number, few, term, more, added, scaled, form, times, plus}
 use Rattle.model_syntax.specs.Answer.{◌>>=◌}
 use Rattle.model_syntax.specs.Names.{Name, same}
 use Rattle.sym_heap.specs.Sides.{and_then}
-use Rattle.sym_heap.proofs.Coefficients.{coefficient_merge, coefficient_times, Below, below_merge, below_times, keeps_limits}
+use Rattle.side_certs.proofs.laws.Coefficients.{coefficient_merge, coefficient_times, Below, below_merge, below_times, keeps_limits}
 use Rattle.sym_heap.proofs.Declared.{Answered, answered}
 
 number_is : (n k : ℕ) → number n ≡ Ok k → (n ≡ k) × (n ≤ 2 ^ 40)

@@ -1,12 +1,12 @@
 -- Coefficients of sums and multiples of forms, and forms that keep the limits since their coefficients do.
-use Rattle.std.proofs.Common.{◌≡◌, refl, sym, ◌∙◌, ap, arith, ℕ, ◌+◌, ◌*◌, ◌<◌, ◌≤◌, Bool, true, false, List, [], ◌∷◌, length, ℤ, pos, negsuc, ◌+ℤ◌, ◌*ℤ◌, nat_eq, nat_lt, if◌then◌else◌}
+use Rattle.std.proofs.Common.{◌≡◌, refl, sym, ◌∙◌, ap, arith, ℕ, ◌+◌, ◌<◌, ◌≤◌, Bool, true, false, List, [], ◌∷◌, length, ℤ, pos, negsuc, neg_ℤ, ◌+ℤ◌, ◌*ℤ◌, nat_eq, nat_lt, if◌then◌else◌}
 use Rattle.std.specs.Ordering.{int_eq}
 use Rattle.std.proofs.lemmas.Bool.{le-leb, eqb-true}
 use Rattle.std.proofs.lemmas.Bool.Decides.{nat_tests, Decides-int_eq}
 use Rattle.std.proofs.lemmas.Int.{ints}
-use borrow.Author.Differences.{up, down, sum_is_lem}
-use Rattle.side_certs.specs.LinearForm.{LinearForm, is_small, all_small, is_within, keep, keep_all, merge_into, merge, rises_from, terms_times, share, coefficient}
-use Rattle.side_certs.proofs.Terms.{both, rises_parts, coefficient_before}
+use Rattle.side_certs.specs.LinearForm.{LinearForm, is_small, all_small, is_within, keep, keep_all, merge_into, merge, rises_from, terms_times, plus, times, minus, share, coefficient}
+use Rattle.side_certs.proofs.laws.Limits.{both, rises_parts, coefficient_before}
+use Rattle.side_certs.proofs.laws.Products.{times_sum, times_nothing}
 
 is_zero : (z : ℤ) → int_eq z (pos 0) ≡ true → z ≡ pos 0
 is_zero z e = grind (arith, Decides-int_eq)
@@ -55,16 +55,6 @@ coefficient_merge s (t ∷ ts) us = coefficient_into s t ts (merge ts) (λ vs. c
 
 -- Multiples.
 
-times_nothing : (k : ℤ) → k *ℤ pos 0 ≡ pos 0
-times_nothing (pos n) = omega (arith, ints)
-times_nothing (negsuc n) = omega (arith, ints)
-
-pub times_sum : (a b c : ℤ) → a *ℤ (b +ℤ c) ≡ (a *ℤ b) +ℤ (a *ℤ c)
-times_sum a b c =
-    let p : (up (b +ℤ c) + down b + down c) * up a ≡ (down (b +ℤ c) + up b + up c) * up a = ap (λ (n : ℕ). n * up a) (sum_is_lem b c) in
-    let q : (up (b +ℤ c) + down b + down c) * down a ≡ (down (b +ℤ c) + up b + up c) * down a = ap (λ (n : ℕ). n * down a) (sum_is_lem b c) in
-    omega (arith, ints, p, q)
-
 share_times : (s : ℕ) (k : ℤ) (t : ℕ × ℤ) → share s (t.0, k *ℤ t.1) ≡ k *ℤ share s t
 share_times s k t = by (nat_eq t.0 s) where
   none : k *ℤ pos 0 ≡ pos 0
@@ -79,6 +69,20 @@ coefficient_times s k [] = sym (times_nothing k)
 coefficient_times s k (t ∷ ts) =
     coefficient_keep s t.0 (k *ℤ t.1) (terms_times k ts) ∙ ap (λ z. z +ℤ coefficient s (terms_times k ts)) (share_times s k t)
     ∙ ap (λ z. (k *ℤ share s t) +ℤ z) (coefficient_times s k ts) ∙ sym (times_sum k (share s t) (coefficient s ts))
+
+-- Whole forms.
+
+pub coefficient_plus : (s : ℕ) (f g : LinearForm) → coefficient s (plus f g).terms ≡ coefficient s f.terms +ℤ coefficient s g.terms
+coefficient_plus s f g = coefficient_merge s f.terms g.terms
+
+pub coefficient_scaled : (s : ℕ) (k : ℤ) (f : LinearForm) → coefficient s (times k f).terms ≡ k *ℤ coefficient s f.terms
+coefficient_scaled s k f = coefficient_times s k f.terms
+
+pub coefficient_minus : (s : ℕ) (f g : LinearForm) → coefficient s (minus f g).terms ≡ coefficient s f.terms +ℤ neg_ℤ (coefficient s g.terms)
+coefficient_minus s f g =
+    let whole = coefficient_merge s f.terms (terms_times (negsuc 0) g.terms) in
+    let other = coefficient_times s (negsuc 0) g.terms in
+    omega (arith, ints, whole, other)
 
 -- Symbols below a number.
 

@@ -53,7 +53,7 @@ impl Form {
     }
 
     /// The form `top - s`.
-    pub(crate) fn below(top: u32, s: u32) -> Form
+    pub fn below(top: u32, s: u32) -> Form
         ensures { result ≡ linear.below top s }
     {
         let mut slots = [(0, 0); 16];

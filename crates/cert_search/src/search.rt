@@ -2,6 +2,7 @@
 ghost use Rattle.std.specs.Prelude.{◌≡◌, ◌<◌, ◌^◌, [], ◌∷◌, length, IfOk, None};
 ghost use Rattle.std.specs.Option.{ForSome};
 ghost use Rattle.side_certs.specs.Closes.{Closes};
+ghost use Rattle.cert_search.specs.Limits.{Limited};
 ghost use Rattle.cert_search.specs.Search as spec;
 
 use crate::candidates::{left, newest_fact, symbol_entry};
@@ -19,6 +20,7 @@ const MOST_FACTS: u32 = 16;
 pub fn find(alloc: Global, facts: &[Form], tops: &[u32], goal: &Form) -> Result<Option<Cert>, NoMemory>
     requires { length facts.now < 2 ^ 32 }
     ensures found { IfOk result (λ certificate. certificate ≡ spec.found facts.now tops.now goal.now) }
+    ensures limits { IfOk result (λ certificate. ForSome certificate (Limited facts.now tops.now)) }
     ensures closes { IfOk result (λ certificate. ForSome certificate (Closes facts.now tops.now goal.now)) }
 {
     match entries(alloc, facts, tops, LEVELS, goal)? {

@@ -3,6 +3,7 @@ ghost use Rattle.std.specs.Prelude.{◌≡◌, ◌<◌, ◌≤◌, ◌^◌, [], 
 ghost use Rattle.side_certs.specs.LinearForm as linear;
 ghost use Rattle.cert_search.specs.Search as spec;
 
+use crate::difference::less;
 use side_certs::{Entry, Form};
 
 /// The greatest multiplier of an entry.
@@ -121,10 +122,4 @@ pub(crate) fn left(facts: &[Form], tops: &[u32], goal: &Form, entry: Entry) -> O
     } else {
         None
     }
-}
-
-fn less(goal: &Form, mult: u64, form: &Form) -> Option<Form>
-    ensures { result ≡ linear.within (linear.minus goal.now (linear.times (pos mult) form.now)) }
-{
-    goal.sub(&form.scale(mult as i64)?)
 }

@@ -3,6 +3,7 @@
 #![tactic(auto)]
 
 mod candidates;
+mod difference;
 mod search;
 
 pub use search::find;

@@ -9,4 +9,4 @@ returns c =
     let fact_fits : SFits w64 c.coefficient.result = search rules in
     let goal_is = to_z-of_z w64 c.args.term.1 goal_fits in
     let fact_is = to_z-of_z w64 c.coefficient.result fact_fits in
-    rw (goal_is, fact_is, c.coefficient.ensures) at c.quotient.ensures
+    rw (goal_is, fact_is, c.coefficient.ensures.coefficient) at c.quotient.ensures

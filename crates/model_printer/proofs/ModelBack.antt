@@ -21,7 +21,7 @@ use Rattle.model_reader.specs.Parts.{Answer, Reading, Name}
 use Rattle.model_reader.specs.Reading.{reading, atom_reading}
 use Rattle.model_reader.specs.Models as models
 use Rattle.model_reader.specs.Models.{len, list_sort, list_param, atom_ret, list_ret, list_model, in_word}
-use Rattle.model_printer.specs.Formed.{len_formed, param_formed, facts_formed, stmt_formed, ret_formed, model_formed}
+use Rattle.model_syntax.specs.Formed.{len_formed, param_formed, facts_formed, stmt_formed, ret_formed, model_formed}
 use Rattle.model_printer.specs.Printing as printing
 use Rattle.model_printer.specs.Printing.{atom, worded}
 use Rattle.model_printer.proofs.Backs.{at_atom, at_worded, at_headed, IsBack, each_back, all_back}

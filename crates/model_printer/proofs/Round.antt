@@ -8,7 +8,7 @@ use Rattle.sx_text.proofs.Printed.{printed_is_read}
 use Rattle.model_syntax.specs.declared.program.Model.{Model}
 use Rattle.model_syntax.specs.Limits.{Within}
 use Rattle.model_syntax.specs.Spelling.{Spellable, stmt_spellable}
-use Rattle.model_printer.specs.Formed.{model_formed}
+use Rattle.model_syntax.specs.Formed.{model_formed}
 use Rattle.model_printer.specs.Printing as printing
 use Rattle.model_reader.specs.Reading.{reading, read_model, limited}
 use Rattle.model_reader.proofs.Exact.{within_limits}

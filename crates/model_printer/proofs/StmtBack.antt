@@ -16,7 +16,7 @@ use Rattle.model_reader.specs.Parts as parts
 use Rattle.model_reader.specs.Parts.{Answer, Reading, Name, each}
 use Rattle.model_reader.specs.Reading.{reading, atom_reading}
 use Rattle.model_reader.specs.Statements.{stmt, list_stmt}
-use Rattle.model_printer.specs.Formed.{expr_formed, names_formed, facts_formed, stmt_formed, stmt_formed_step}
+use Rattle.model_syntax.specs.Formed.{expr_formed, names_formed, facts_formed, stmt_formed, stmt_formed_step}
 use Rattle.model_printer.specs.Printing as printing
 use Rattle.model_printer.specs.Printing.{atom, list, stmt_step}
 use Rattle.model_printer.proofs.Backs.{at_list, at_forms, at_worded, at_headed, IsBack, AreBack, each_back, all_back}

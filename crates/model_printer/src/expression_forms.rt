@@ -1,7 +1,7 @@
 //! Forms of expressions.
 ghost use Rattle.std.specs.Prelude.{◌≡◌, [], ◌∷◌, ◌&&◌, true, IfOk, OnOk};
 ghost use Rattle.rup_base.specs.Name.{is_name};
-ghost use Rattle.model_printer.specs.Formed as formed;
+ghost use Rattle.model_syntax.specs.Formed as formed;
 ghost use Rattle.model_printer.specs.Printing as printing;
 
 use crate::forms::{atom, begun, list, name_form, number_form, numbers_form, pair};

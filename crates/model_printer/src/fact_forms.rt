@@ -1,6 +1,6 @@
 //! Forms of requirements and kept facts.
 ghost use Rattle.std.specs.Prelude.{◌≡◌, [], ◌∷◌, ◌&&◌, map, true, IfOk, OnOk};
-ghost use Rattle.model_printer.specs.Formed as formed;
+ghost use Rattle.model_syntax.specs.Formed as formed;
 ghost use Rattle.model_printer.specs.Printing as printing;
 
 use crate::forms::{begun, list, name_form, number_form, pair};

@@ -2,7 +2,7 @@
 ghost use Rattle.std.specs.Prelude.{◌≡◌, [], ◌∷◌, ◌&&◌, map, true, IfOk, OnOk};
 ghost use Rattle.rup_base.specs.Name.{is_name};
 ghost use Rattle.rup_base.specs.Gather.{all_true};
-ghost use Rattle.model_printer.specs.Formed as formed;
+ghost use Rattle.model_syntax.specs.Formed as formed;
 ghost use Rattle.model_printer.specs.Printing as printing;
 
 use crate::fact_forms::facts_form;

@@ -5,7 +5,7 @@ ghost use Rattle.sx_text.specs.Spelling.{levels};
 ghost use Rattle.model_syntax.specs.declared.program.Model.{Model};
 ghost use Rattle.model_syntax.specs.Limits.{Within};
 ghost use Rattle.model_syntax.specs.Spelling.{Spellable};
-ghost use Rattle.model_printer.specs.Formed.{model_formed};
+ghost use Rattle.model_syntax.specs.Formed.{model_formed};
 ghost use Rattle.model_printer.specs.Printing as printing;
 ghost use Rattle.model_reader.specs.Reading as reading;
 

@@ -9,3 +9,5 @@ pub mod Scope
 pub mod Spelling
 pub mod Types
 pub mod Value
+pub mod Formed
+pub mod Kinds

@@ -23,9 +23,11 @@ use Rattle.model_syntax.specs.declared.program.Ret.TheVariants as ret
 use Rattle.model_syntax.specs.declared.program.Model.{Model}
 use Rattle.model_syntax.specs.Answer.{◌>>=◌}
 use Rattle.model_syntax.specs.Environment.{Env, value_of, put, put_some, number, elements, size, with_element, with_each, carry}
+use Rattle.model_syntax.specs.Kinds.{is_of_kind}
 use Rattle.model_syntax.specs.Limits.{next}
 use Rattle.model_syntax.specs.Names.{Name}
 use Rattle.model_syntax.specs.Operation.{apply, holds}
+use Rattle.model_syntax.specs.Types.{kind_of}
 
 -- Expressions. A flag is 1 where it is true and 0 where it is false.
 
@@ -112,18 +114,9 @@ run = fold-Stmt Turn run_step
 
 -- Arguments.
 
--- an array's length fits: it is the number, or any that a word holds
-abbrev pub fits_length : Len → ℕ → Bool
-fits_length (Fixed k) n = nat_eq k n
-fits_length (Named x) n = nat_le n 4294967295
-
 -- an argument fits a parameter
 abbrev pub fits : Param → Arg → Bool
-fits (param.Word x) (Word n) = true
-fits (param.Byte x) (Word n) = nat_le n 255
-fits (param.Bytes a k) (Bytes ns) = fits_length k (length ns)
-fits (param.Words a k) (Words ns) = fits_length k (length ns)
-fits p v = false
+fits p v = is_of_kind (kind_of p) v
 
 -- a named length is the array's
 abbrev pub bind_length : Len → ℕ → Turn

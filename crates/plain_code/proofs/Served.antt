@@ -12,7 +12,8 @@ use Rattle.flat_lang.specs.declared.flat.Flat.{Flat}
 use Rattle.flatten.specs.Keeps.{Keeps, Starts as Begins}
 use Rattle.plain_rules.specs.Computes.{Computes, Starts}
 use Rattle.plain_rules.specs.declared.checking.Checked.{Checked}
-use Rattle.rv_machine.specs.State.{Bytes, State}
+use Rattle.rv_machine.specs.State.{State}
+use Rattle.rv_memory.specs.Ranges.{Bytes}
 use Rattle.rv_emit.specs.Ready.{IsPart, arguments}
 use Rattle.rv_emit.specs.Returns.{RunsAs}
 use Rattle.plain_code.specs.Serves.{HasWords, Serves}

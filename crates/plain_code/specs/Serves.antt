@@ -8,8 +8,10 @@ use Rattle.model_syntax.specs.declared.program.Model.{Model}
 use Rattle.plain_rules.specs.declared.checking.Checked.{Checked}
 use Rattle.rv_machine.specs.State.{State, register}
 use Rattle.rv_machine.specs.Step.{after}
-use Rattle.rv_emit.specs.Ready.{Range, Within, stack_range, Ready}
-use Rattle.rv_emit.specs.Returns.{IsSaved, IsUnderWay}
+use Rattle.rv_emit.specs.Ready.{stack_range, Ready}
+use Rattle.rv_memory.specs.Ranges.{Range, Within}
+use Rattle.rv_emit.specs.Returns.{IsUnderWay}
+use Rattle.rv_machine.specs.Machines.{IsSaved}
 
 -- registers a0, which is x10, and on hold the words
 abbrev pub HasWords : List Arg → State → Type 0

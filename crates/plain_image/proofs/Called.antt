@@ -13,7 +13,8 @@ use Rattle.plain_rules.specs.declared.checking.Checked.{Checked}
 use Rattle.plain_code.specs.Serves.{HasWords, Gives, Serves}
 use Rattle.rv_machine.specs.State.{State}
 use Rattle.rv_emit.specs.Ready as code
-use Rattle.run_setup.specs.Ready.{Within, Ready, image_range}
+use Rattle.run_setup.specs.Ready.{Ready, image_range}
+use Rattle.rv_memory.specs.Ranges.{Within}
 use Rattle.run_setup.specs.Good.{HasResults, IsUnderWay, Returns, Good, requirement, result_place}
 use Rattle.plain_image.specs.Written.{bytes_of}
 use Rattle.plain_image.proofs.Parameters.{Shape, in_registers}

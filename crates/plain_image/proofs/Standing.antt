@@ -1,10 +1,9 @@
 -- The code of an image that stands in the memory, and how long an image is.
 use Rattle.std.proofs.Common.{◌≡◌, ℕ, suc, ◌+◌, ◌-◌, List, [], ◌∷◌, ◌++◌, length, replicate, slice_get, refl, ap, ◌∙◌, arith, zero-add, length-append}
 use Rattle.std.proofs.lemmas.List.{length-replicate}
-use Rattle.rv_machine.specs.State.{Bytes}
+use Rattle.rv_memory.specs.Ranges.{Bytes, Stands}
 use Rattle.image_layout.specs.declared.image.Image.{Image}
 use Rattle.image_layout.specs.Spelling.{lists, fixed_fields, header_length, code_offset, spelling}
-use Rattle.run_setup.specs.Ready.{Stands}
 
 slice_get-append_right : (xs ys : List ℕ) (k : ℕ) → slice_get (xs ++ ys) (length xs + k) ≡ slice_get ys k
 slice_get-append_right [] ys k = ap (slice_get ys) (zero-add k)

@@ -16,11 +16,13 @@ use Rattle.model_syntax.specs.declared.program.Param.{Param}
 use Rattle.model_syntax.specs.Types.{kind_of}
 use Rattle.model_syntax.specs.Value.{Meets}
 use Rattle.rv_memory.specs.Bytes.{bytes_of}
-use Rattle.rv_machine.specs.State.{Bytes, State, register}
+use Rattle.rv_machine.specs.State.{State, register}
+use Rattle.rv_memory.specs.Ranges.{Bytes, Range, Within, IsMapped, Apart, AllApart, Stands}
 use Rattle.run_setup.specs.Arguments.{bytes_of_words, array_limit}
 use Rattle.run_setup.specs.Judging.{size_of, total_size, fits, length_value}
 use Rattle.run_setup.specs.Loading.{base, return_address, aligned, end_after, end_of, array_region, array_regions, registers_with, argument_values, image_end, stack_start, regions, set_from, registers, start_state}
-use Rattle.run_setup.specs.Ready.{Range, Within, IsMapped, Apart, AllApart, Stands, IsMachine, image_range, stack_range, array_range, array_ranges, HasLengthAt, HasArgument, HasArguments, ranges, Ready}
+use Rattle.run_setup.specs.Ready.{image_range, stack_range, array_range, array_ranges, HasLengthAt, HasArgument, HasArguments, ranges, Ready}
+use Rattle.rv_machine.specs.Machines.{IsMachine}
 use Rattle.run_setup.specs.Laws.{LoadedIsReady}
 use Rattle.run_setup.proofs.Memory.{Region, all_map, all_both, all_split, all_of_map, all_stand, range_of, mapped, set_length, set_before, set_there}
 use Rattle.run_setup.proofs.Places.{Rises, words_size, aligned_near, aligned_whole, end_bound, end_grows, arrays_rise, image_small, params_most, values_few}

@@ -10,9 +10,8 @@ use Rattle.std.proofs.lemmas.Bool.Decides.{nat_tests}
 use Rattle.std.proofs.lemmas.List.{get_or-set_same, get_or-set_other}
 use Rattle.std.proofs.lemmas.Option.{slice_get-get_or, slice_get_within}
 use Rattle.rv_memory.specs.Bytes.{numbered, entries, bytes_of}
-use Rattle.rv_machine.specs.State.{Bytes}
+use Rattle.rv_memory.specs.Ranges.{Bytes, Stands, Range, Within, IsMapped}
 use Rattle.run_setup.specs.Loading.{set_from, AreBytes}
-use Rattle.run_setup.specs.Ready.{Stands, Range, Within, IsMapped}
 use Rattle.run_setup.proofs.Places.{Rises}
 
 abbrev pub Region : Type 0

@@ -22,7 +22,7 @@ use Rattle.rup_base.specs.declared.refusal.Refusal.{Refusal}
 use Rattle.rup_base.specs.declared.refusal.Refusal.TheVariants.{BadArguments, ArraysTooLarge}
 use Rattle.image_layout.specs.Reading.{scalars}
 use Rattle.rv_memory.specs.Bytes.{IsApart, AreDisjoint}
-use Rattle.rv_machine.specs.State.{Bytes}
+use Rattle.rv_memory.specs.Ranges.{Bytes}
 use Rattle.run_setup.specs.Arguments.{bytes_of_words, array_limit}
 use Rattle.run_setup.specs.Judging.{size_of, total_size, capped, length_value, symbol_values, judged, judged_count, judged_kinds, judged_size}
 use Rattle.run_setup.specs.Results.{array_at}

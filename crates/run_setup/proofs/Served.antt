@@ -21,7 +21,8 @@ use Rattle.model_syntax.specs.Answer.{◌>>=◌}
 use Rattle.model_syntax.specs.declared.program.Model.{Model}
 use Rattle.model_syntax.specs.Types.{kind_of}
 use Rattle.model_syntax.specs.Value.{Meets, value, results, judge_arguments}
-use Rattle.rv_machine.specs.State.{Bytes, State, register}
+use Rattle.rv_machine.specs.State.{State, register}
+use Rattle.rv_memory.specs.Ranges.{Bytes, Stands}
 use Rattle.rv_machine.specs.Step.{then_step, step, after}
 use Rattle.rv_machine.specs.Run.{Reached, Ran}
 use Rattle.rv_machine.specs.declared.running.End.{End}
@@ -31,7 +32,8 @@ use Rattle.run_setup.specs.Judging.{total_size, symbol_values, fits}
 use Rattle.run_setup.specs.Loading.{base, return_address, aligned, end_after, end_of, registers_with, argument_values, image_end, start_state}
 use Rattle.run_setup.specs.Results.{byte_of, bytes_at, array_at, place_of, results_from, results_of, line_of, lines_of}
 use Rattle.run_setup.specs.Digits.{two_digits}
-use Rattle.run_setup.specs.Ready.{Stands, array_bytes, IsMachine, Ready}
+use Rattle.run_setup.specs.Ready.{array_bytes, Ready}
+use Rattle.rv_machine.specs.Machines.{IsMachine}
 use Rattle.run_setup.specs.Good.{register_of, HasResults, IsUnderWay, Returns, Good}
 use Rattle.run_setup.specs.Laws.{HasWords, Serves, GoodIsServed, step_limit}
 use Rattle.run_setup.proofs.Places.{words_size}

@@ -23,9 +23,11 @@ use Rattle.model_syntax.specs.Names.{Name, same}
 use Rattle.model_syntax.specs.Types.{kind_of}
 use Rattle.model_syntax.specs.Value.{value}
 use Rattle.rv_machine.specs.State.{State, register}
+use Rattle.rv_machine.specs.Machines.{IsSaved}
 use Rattle.rv_machine.specs.Step.{after}
 use Rattle.run_setup.specs.Judging.{symbol_values}
-use Rattle.run_setup.specs.Ready.{Range, Within, Stands, array_bytes, image_range, stack_range, array_range, Ready}
+use Rattle.run_setup.specs.Ready.{array_bytes, image_range, stack_range, array_range, Ready}
+use Rattle.rv_memory.specs.Ranges.{Range, Within, Stands}
 
 -- The parameters, requirements and results of a model, as an image has them.
 
@@ -93,10 +95,6 @@ Returned kinds [] args s address = ⊥
 Returned kinds (None ∷ rets) args s address = Returned kinds rets args s address
 Returned kinds (Some p ∷ rets) args s address =
     Within (array_range (register_of kinds p) (slice_index_or args p (arg.Word 0)) s) address ⊎ Returned kinds rets args s address
-
--- sp, gp and tp are x2 to x4; s0 and s1 are x8 and x9; s2 to s11 are x18 to x27
-abbrev pub IsSaved : ℕ → Type 0
-IsSaved r = ((2 ≤ r) × (r ≤ 4)) ⊎ (((8 ≤ r) × (r ≤ 9)) ⊎ ((18 ≤ r) × (r ≤ 27)))
 
 -- before a step of the call: no step has trapped, the place lies in the image, and is not the one to return to
 pub record IsUnderWay (i : Image) (base : ℕ) (s : State) (j : ℕ) : Type 0 where

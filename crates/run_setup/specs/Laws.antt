@@ -17,7 +17,8 @@ use Rattle.run_setup.specs.Arguments.{array_limit}
 use Rattle.run_setup.specs.Judging.{total_size, symbol_values, judged}
 use Rattle.run_setup.specs.Loading.{base, return_address, start_state}
 use Rattle.run_setup.specs.Results.{results_of, lines_of}
-use Rattle.run_setup.specs.Ready.{IsMachine, Ready}
+use Rattle.run_setup.specs.Ready.{Ready}
+use Rattle.rv_machine.specs.Machines.{IsMachine}
 use Rattle.run_setup.specs.Good.{requirement, Good}
 
 -- the greatest number of steps of a run

@@ -10,40 +10,10 @@ use Rattle.image_layout.specs.declared.image.Image.{Image}
 use Rattle.image_layout.specs.Spelling.{spelling, registers_of}
 use Rattle.model_syntax.specs.declared.program.Model.{Model}
 use Rattle.model_syntax.specs.Value.{Meets}
-use Rattle.rv_machine.specs.State.{Bytes, State, register}
+use Rattle.rv_machine.specs.State.{State, register}
+use Rattle.rv_memory.specs.Ranges.{Range, Within, IsMapped, Apart, AllApart, Stands}
+use Rattle.rv_machine.specs.Machines.{IsMachine}
 use Rattle.run_setup.specs.Arguments.{bytes_of_words}
-
--- so many addresses from a first one on
-pub record Range : Type 0 where
-  pub start : ℕ
-  pub size : ℕ
-
-abbrev pub Within : Range → ℕ → Type 0
-Within r address = (r.start ≤ address) × (address < r.start + r.size)
-
--- the range ends at or below 2^32, and its addresses are in the memory
-pub record IsMapped (mem : Bytes) (r : Range) : Type 0 where
-  pub ends : r.start + r.size ≤ 2 ^ 32
-  pub inside : (address : ℕ) → Within r address → IsSome (get mem address)
-
--- no address is in both; an empty range overlaps nothing
-abbrev pub Apart : Range → Range → Type 0
-Apart r q = (address : ℕ) → Within r address → Within q address → ⊥
-
-abbrev pub AllApart : List Range → Type 0
-AllApart [] = ⊤
-AllApart (r ∷ rs) = AllByRecursion (Apart r) rs × AllApart rs
-
--- the bytes stand in the memory from an address on
-abbrev pub Stands : Bytes → ℕ → List ℕ → Type 0
-Stands mem start bytes = (k b : ℕ) → slice_get bytes k ≡ Some b → get mem (start + k) ≡ Some b
-
--- the state's numbers are words and bytes
-pub record IsMachine (s : State) : Type 0 where
-  pub registers : length s.regs ≡ 32
-  pub words : (r : ℕ) → register s.regs r < 2 ^ 32
-  pub pc_word : s.pc < 2 ^ 32
-  pub bytes : (address b : ℕ) → get s.mem address ≡ Some b → b < 2 ^ 8
 
 abbrev pub image_range : Image → ℕ → Range
 image_range i base = record { start = base; size = length (spelling i) }

@@ -5,7 +5,8 @@ use Rattle.std.specs.FinMap.{get}
 use Rattle.rup_base.specs.declared.arg.Arg.{Arg}
 use Rattle.rup_base.specs.declared.arg.Arg.TheVariants as arg
 use Rattle.image_layout.specs.declared.image.Image.{Image}
-use Rattle.rv_machine.specs.State.{Bytes, State, register}
+use Rattle.rv_machine.specs.State.{State, register}
+use Rattle.rv_memory.specs.Ranges.{Bytes}
 use Rattle.run_setup.specs.Digits.{two_digits, eight_digits}
 use Rattle.run_setup.specs.Arguments.{bytes_of_words, words_of_bytes}
 use Rattle.run_setup.specs.Loading.{aligned, end_of, image_end}

@@ -3,7 +3,7 @@ ghost use Rattle.std.specs.Prelude.{◌≡◌, ℕ, ◌≤◌, ◌<◌, ◌+◌,
 ghost use Rattle.std.specs.List.{AllByRecursion};
 ghost use Rattle.std.specs.FinMap.{get};
 ghost use Rattle.rv_machine.specs.View.{state_of};
-ghost use Rattle.run_setup.specs.Ready.{IsMachine};
+ghost use Rattle.rv_machine.specs.Machines.{IsMachine};
 ghost use Rattle.image_layout.specs.Spelling.{IsWithinLimits, spelling};
 ghost use Rattle.rv_memory.specs.Bytes.{bytes_of};
 ghost use Rattle.run_setup.specs.Arguments.{bytes_of_words, array_limit};

@@ -15,9 +15,9 @@ pub fn refusal_line(alloc: Global, r: &Refusal) -> Result<Text, NoMemory>
     ensures { IfOk result (λ line. line ≡ spec.line_of r.now) }
 {
     let mut line = Text::from_slice(alloc, b"refused")?;
-    put_number(alloc, &mut line, u128::from(number(r)))?;
+    put_number(&mut line, u128::from(number(r)))?;
     put_word(&mut line, name(r))?;
-    put_fields(alloc, &mut line, r)?;
+    put_fields(&mut line, r)?;
     line.push(b'\n')?;
     Ok(line)
 }
@@ -31,11 +31,11 @@ fn put_word(line: &mut Text, word: &[u8]) -> Result<(), NoMemory>
 }
 
 /// Puts a space and the number in decimal behind a line.
-fn put_number(alloc: Global, line: &mut Text, number: u128) -> Result<(), NoMemory>
+fn put_number(line: &mut Text, number: u128) -> Result<(), NoMemory>
     ensures { OnOk result (line.new ≡ line.old ++ spec.spaced (decimal number)) }
 {
     line.push(b' ')?;
-    line.push_number(alloc, number)
+    line.push_number(number)
 }
 
 /// The number of a refusal.
@@ -93,64 +93,64 @@ fn name(r: &Refusal) -> &'static [u8]
 }
 
 /// Puts numbers behind a line, each behind a space.
-fn put_numbers(alloc: Global, line: &mut Text, numbers: &[u32]) -> Result<(), NoMemory>
+fn put_numbers(line: &mut Text, numbers: &[u32]) -> Result<(), NoMemory>
     ensures { OnOk result (line.new ≡ line.old ++ flat_map spec.numbered numbers.now) }
 {
     let mut left = numbers;
     'numbers: while let [first, rest @ ..] = left {
-        put_number(alloc, line, u128::from(*first))?;
+        put_number(line, u128::from(*first))?;
         left = rest;
     }
     Ok(())
 }
 
 /// Puts the fields of a refusal behind its line, each behind a space.
-fn put_fields(alloc: Global, line: &mut Text, r: &Refusal) -> Result<(), NoMemory>
+fn put_fields(line: &mut Text, r: &Refusal) -> Result<(), NoMemory>
     ensures { OnOk result (line.new ≡ line.old ++ flat_map spec.spaced (spec.fields r.now)) }
 {
     match r {
         Refusal::NotJson => Ok(()),
         Refusal::NotText { word, at, why } => {
-            put_numbers(alloc, line, &[*word, *at])?;
+            put_numbers(line, &[*word, *at])?;
             put_word(line, text_why(*why))
         }
         Refusal::OverLimit { which, count } => {
             put_word(line, limit(*which))?;
-            put_numbers(alloc, line, &[*count])
+            put_numbers(line, &[*count])
         }
         Refusal::IllTyped { place, why } => {
-            put_place(alloc, line, *place)?;
+            put_place(line, *place)?;
             put_word(line, type_why(*why))
         }
-        Refusal::BadArguments { which } => put_fault(alloc, line, *which),
+        Refusal::BadArguments { which } => put_fault(line, *which),
         Refusal::NotDerivation { node: None } => put_word(line, b"header"),
         Refusal::NodeCount { listed, needed } => {
-            put_numbers(alloc, line, &[*listed])?;
-            put_number(alloc, line, u128::from(*needed))
+            put_numbers(line, &[*listed])?;
+            put_number(line, u128::from(*needed))
         }
         Refusal::OverBound {
             node,
             degree,
             coefficient,
         } => {
-            put_numbers(alloc, line, &[*node, *degree])?;
-            put_number(alloc, line, *coefficient)
+            put_numbers(line, &[*node, *degree])?;
+            put_number(line, *coefficient)
         }
         Refusal::Stuck { stmt, goal } => {
-            put_numbers(alloc, line, &[*stmt])?;
+            put_numbers(line, &[*stmt])?;
             put_goal(line, goal)
         }
-        Refusal::ArraysTooLarge { bytes } => put_number(alloc, line, u128::from(*bytes)),
+        Refusal::ArraysTooLarge { bytes } => put_number(line, u128::from(*bytes)),
         Refusal::NoInstance { node: a, cond: b }
         | Refusal::BadCertificate { node: a, cert: b }
         | Refusal::NotLemma { word: a, at: b }
-        | Refusal::TooLong { word: a, limit: b } => put_numbers(alloc, line, &[*a, *b]),
+        | Refusal::TooLong { word: a, limit: b } => put_numbers(line, &[*a, *b]),
         Refusal::NotModel { at: n }
         | Refusal::NotDerivation { node: Some(n) }
         | Refusal::OverSlots { count: n }
         | Refusal::OverNodes { count: n }
         | Refusal::NotImage { at: n }
-        | Refusal::OverSize { bytes: n } => put_numbers(alloc, line, &[*n]),
+        | Refusal::OverSize { bytes: n } => put_numbers(line, &[*n]),
     }
 }
 
@@ -194,38 +194,38 @@ fn type_why(why: TypeWhy) -> &'static [u8]
     }
 }
 
-fn put_place(alloc: Global, line: &mut Text, place: TypePlace) -> Result<(), NoMemory>
+fn put_place(line: &mut Text, place: TypePlace) -> Result<(), NoMemory>
     ensures { OnOk result (line.new ≡ line.old ++ flat_map spec.spaced (spec.place place)) }
 {
     match place {
         TypePlace::Params => put_word(line, b"params"),
         TypePlace::Require(k) => {
             put_word(line, b"require")?;
-            put_numbers(alloc, line, &[k])
+            put_numbers(line, &[k])
         }
         TypePlace::Statement(k) => {
             put_word(line, b"statement")?;
-            put_numbers(alloc, line, &[k])
+            put_numbers(line, &[k])
         }
         TypePlace::Return(k) => {
             put_word(line, b"return")?;
-            put_numbers(alloc, line, &[k])
+            put_numbers(line, &[k])
         }
     }
 }
 
-fn put_fault(alloc: Global, line: &mut Text, fault: ArgFault) -> Result<(), NoMemory>
+fn put_fault(line: &mut Text, fault: ArgFault) -> Result<(), NoMemory>
     ensures { OnOk result (line.new ≡ line.old ++ flat_map spec.spaced (spec.fault fault)) }
 {
     match fault {
         ArgFault::Count => put_word(line, b"count"),
         ArgFault::Param(k) => {
             put_word(line, b"param")?;
-            put_numbers(alloc, line, &[k])
+            put_numbers(line, &[k])
         }
         ArgFault::Require(k) => {
             put_word(line, b"require")?;
-            put_numbers(alloc, line, &[k])
+            put_numbers(line, &[k])
         }
     }
 }

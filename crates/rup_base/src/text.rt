@@ -3,6 +3,7 @@ ghost use Rattle.std.specs.Prelude.{◌≡◌, [], ◌∷◌, ◌++◌, ◌↔�
 ghost use Rattle.std.specs.Fmt.{decimal};
 
 use crate::no_memory::NoMemory;
+use itoa::Buffer;
 use std::alloc::Global;
 use std::fmt;
 use std::marker::Model;
@@ -89,12 +90,12 @@ impl Text {
     }
 
     /// Puts the number behind the last byte, in decimal without leading zeros.
-    pub fn push_number(&mut self, alloc: Global, number: u128) -> Result<(), NoMemory>
+    pub fn push_number(&mut self, number: u128) -> Result<(), NoMemory>
         ensures appended { OnOk result (self.new ≡ self.old ++ decimal number) }
         ensures no_memory { OnErr result (self.new ≡ self.old) }
     {
-        let digits = format!(in alloc; "{number}")?;
-        self.extend_from_slice(digits.as_bytes())
+        let mut digits = Buffer::new();
+        self.extend_from_slice(digits.format(number).as_bytes())
     }
 }
 

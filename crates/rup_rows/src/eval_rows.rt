@@ -50,7 +50,7 @@ fn upcase(alloc: Global) -> Result<Text, NoMemory> {
     )?;
     for k in 0u32..256 {
         let entry = if 97 <= k && k <= 122 { k - 32 } else { k };
-        model.push_number(alloc, u128::from(entry))?;
+        model.push_number(u128::from(entry))?;
         model.push(b' ')?;
     }
     model.extend_from_slice(b") (word c)))) (ret (s in s)))")?;

@@ -149,9 +149,9 @@ fn chain(alloc: Global, count: u32) -> Result<String, NoMemory> {
     let mut model = Text::from_slice(alloc, b"(let x1 (add x0 1))")?;
     for k in 1..count {
         model.extend_from_slice(b" (let x")?;
-        model.push_number(alloc, u128::from(k) + 1)?;
+        model.push_number(u128::from(k) + 1)?;
         model.extend_from_slice(b" (add x")?;
-        model.push_number(alloc, u128::from(k))?;
+        model.push_number(u128::from(k))?;
         model.extend_from_slice(b" 1))")?;
     }
     let text = format!(in alloc;
@@ -167,7 +167,7 @@ fn chain_tree(alloc: Global, count: u32) -> Result<String, NoMemory> {
     nodes.extend_from_slice(rest.as_bytes())?;
     for k in 1..count {
         nodes.extend_from_slice(b",[\"s-let\",[")?;
-        nodes.push_number(alloc, u128::from(k) + 1)?;
+        nodes.push_number(u128::from(k) + 1)?;
         nodes.extend_from_slice(b"],[]],")?;
         nodes.extend_from_slice(rest.as_bytes())?;
     }

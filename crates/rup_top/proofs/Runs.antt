@@ -8,7 +8,7 @@ use Rattle.rv_machine.specs.declared.running.End.{End}
 use Rattle.rv_machine.specs.State.{State}
 use Rattle.rv_machine.specs.Run.{Ran}
 use Rattle.run_setup.specs.Loading.{return_address}
-use Rattle.run_setup.specs.Ready.{IsMachine}
+use Rattle.rv_machine.specs.Machines.{IsMachine}
 use Rattle.rup_top.specs.declared.answer.Answer.{Answer}
 use Rattle.rup_top.specs.Runs.{RunEnds, budget, run_answer}
 

@@ -10,7 +10,7 @@ use Rattle.rv_machine.specs.State.{State}
 use Rattle.rv_machine.specs.Run.{Ran}
 use Rattle.run_setup.specs.Judging.{symbol_values}
 use Rattle.run_setup.specs.Loading.{return_address}
-use Rattle.run_setup.specs.Ready.{IsMachine}
+use Rattle.rv_machine.specs.Machines.{IsMachine}
 use Rattle.run_setup.specs.Results.{results_of, lines_of}
 use Rattle.rup_top.specs.declared.answer.Answer.{Answer}
 use Rattle.rup_top.specs.Answer.{done, unfinished, returned_line, trapped_text, out_of_steps_text}

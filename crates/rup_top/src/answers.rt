@@ -49,7 +49,7 @@ pub fn read_fault(alloc: Global, place: u32) -> Result<Answer, NoMemory>
     ensures { IfOk result (λ a. a ≡ spec.read_fault place) }
 {
     let mut note = Text::from_slice(alloc, b"read fault at word ")?;
-    note.push_number(alloc, u128::from(place))?;
+    note.push_number(u128::from(place))?;
     note.push(b'\n')?;
     Ok(Answer {
         status: 3,

@@ -85,15 +85,15 @@ fn replay_line(
     ensures { IfOk result (λ note. note ≡ judgement.replay_line derivation.now replayed.now.checked) }
 {
     let mut note = Text::from_slice(alloc, b"replay: nodes ")?;
-    note.push_number(alloc, u128::from(derivation.size()))?;
+    note.push_number(u128::from(derivation.size()))?;
     note.extend_from_slice(b" locals ")?;
-    note.push_number(alloc, u128::from(replayed.locals))?;
+    note.push_number(u128::from(replayed.locals))?;
     note.extend_from_slice(b" depth ")?;
-    note.push_number(alloc, u128::from(replayed.depth))?;
+    note.push_number(u128::from(replayed.depth))?;
     note.extend_from_slice(b" weight ")?;
-    note.push_number(alloc, u128::from(replayed.checked.weight))?;
+    note.push_number(u128::from(replayed.checked.weight))?;
     note.extend_from_slice(b" bound ")?;
-    note.push_number(alloc, u128::from(replayed.checked.weight))?;
+    note.push_number(u128::from(replayed.checked.weight))?;
     note.push(b'\n')?;
     Ok(note)
 }

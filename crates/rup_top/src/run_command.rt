@@ -6,7 +6,7 @@ ghost use Rattle.rv_machine.specs.Run.{Ran};
 ghost use Rattle.rv_machine.specs.View.{state_of};
 ghost use Rattle.run_setup.specs.Judging.{judged};
 ghost use Rattle.run_setup.specs.Loading as loading;
-ghost use Rattle.run_setup.specs.Ready.{IsMachine};
+ghost use Rattle.rv_machine.specs.Machines.{IsMachine};
 ghost use Rattle.rup_top.specs.Answer as answer;
 ghost use Rattle.rup_top.specs.Runs as runs;
 ghost use Rattle.rup_top.specs.Script as spec;
@@ -157,9 +157,9 @@ fn returned_line(alloc: Global, steps: u64, bound: u128) -> Result<Text, NoMemor
     ensures { IfOk result (λ text. text ≡ answer.returned_line steps bound) }
 {
     let mut text = Text::from_slice(alloc, b"run: returned in ")?;
-    text.push_number(alloc, u128::from(steps))?;
+    text.push_number(u128::from(steps))?;
     text.extend_from_slice(b" steps, bound ")?;
-    text.push_number(alloc, bound)?;
+    text.push_number(bound)?;
     text.push(b'\n')?;
     Ok(text)
 }
@@ -171,7 +171,7 @@ fn trapped_text(alloc: Global, cause: Cause, pc: u32, steps: u64) -> Result<Text
     let mut text = Text::from_slice(alloc, cause.as_bytes())?;
     put_word(&mut text, pc)?;
     text.push(b' ')?;
-    text.push_number(alloc, u128::from(steps))?;
+    text.push_number(u128::from(steps))?;
     Ok(text)
 }
 
@@ -179,6 +179,6 @@ fn out_of_steps_text(alloc: Global, steps: u64) -> Result<Text, NoMemory>
     ensures { IfOk result (λ text. text ≡ answer.out_of_steps_text steps) }
 {
     let mut text = Text::from_slice(alloc, b"out of steps ")?;
-    text.push_number(alloc, u128::from(steps))?;
+    text.push_number(u128::from(steps))?;
     Ok(text)
 }

@@ -7,7 +7,8 @@ use Rattle.flat_lang.specs.State.{Vars, spend}
 use Rattle.flat_lang.specs.State as flat
 use Rattle.flat_lang.specs.Meaning.{Rule, given, fuelled, choose}
 use Rattle.rv_code.specs.declared.instruction.Instr.{Instr}
-use Rattle.rv_machine.specs.State.{Bytes, State, register}
+use Rattle.rv_machine.specs.State.{State, register}
+use Rattle.rv_memory.specs.Ranges.{Bytes}
 use Rattle.rv_emit.specs.Code.{Code, fetch, jump, skip, sides}
 use Rattle.rv_emit.proofs.Site.{Site, Sound, Before}
 use Rattle.rv_emit.proofs.Runs.{Has, HasAll, has_front, has_back, Reaches, step_reach, given_reach, fuelled_reach, later}

@@ -2,7 +2,8 @@
 use Rattle.std.proofs.Common.{◌≡◌, ℕ, zero, suc, ◌+◌, ◌^◌, ◌<◌, ◌≤◌, Bool, true, false, Ok, refl, subst, arith}
 use Rattle.flat_lang.specs.State.{Vars}
 use Rattle.flat_lang.specs.State as flat
-use Rattle.rv_machine.specs.State.{Bytes, State, register}
+use Rattle.rv_machine.specs.State.{State, register}
+use Rattle.rv_memory.specs.Ranges.{Bytes}
 use Rattle.rv_emit.specs.Whole.{moves_in}
 use Rattle.rv_emit.specs.Ready.{arguments}
 use Rattle.rv_emit.proofs.Site.{Site, Sound, IsFree, Before}

@@ -9,7 +9,8 @@ use Rattle.rv_code.specs.declared.instruction.Instr.{Instr}
 use Rattle.rv_code.specs.Word.{word_of}
 use Rattle.rv_machine.specs.Word.{plus}
 use Rattle.rv_machine.specs.Fields.{extended}
-use Rattle.rv_machine.specs.State.{Bytes, State, register, with_register, number_at}
+use Rattle.rv_machine.specs.State.{State, register, with_register, number_at}
+use Rattle.rv_memory.specs.Ranges.{Bytes}
 use Rattle.rv_machine.specs.Effect.{effect}
 use Rattle.rv_machine.specs.Step.{gives, step}
 use Rattle.rv_machine.proofs.Memory.{number_at_agree, is_some-number_at}

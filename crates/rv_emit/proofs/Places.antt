@@ -9,7 +9,8 @@ use Rattle.reg_alloc.specs.declared.plan.At.{At}
 use Rattle.reg_alloc.specs.declared.plan.At.TheVariants.{Reg as Register, Slot}
 use Rattle.rv_machine.specs.Word.{plus}
 use Rattle.rv_machine.specs.Fields.{extended}
-use Rattle.rv_machine.specs.State.{Bytes, State, register, number_at, with_number}
+use Rattle.rv_machine.specs.State.{State, register, number_at, with_number}
+use Rattle.rv_memory.specs.Ranges.{Bytes}
 use Rattle.rv_machine.specs.Effect.{effect}
 use Rattle.rv_machine.specs.Step.{gives}
 use Rattle.rv_machine.proofs.Memory.{get-insert_same, get-insert_other, get-with_number_other, mapped-with_number, mapped_before_with_number, number_at-with_number, number_at-with_number_other, is_some-number_at}

@@ -4,7 +4,8 @@ use Rattle.std.proofs.lemmas.Bool.{cases_eq}
 use Rattle.reg_alloc.specs.declared.plan.At.TheVariants.{Slot}
 use Rattle.rv_machine.specs.Word.{plus}
 use Rattle.rv_machine.specs.Fields.{extended}
-use Rattle.rv_machine.specs.State.{Bytes, State, register, with_register, number_at}
+use Rattle.rv_machine.specs.State.{State, register, with_register, number_at}
+use Rattle.rv_memory.specs.Ranges.{Bytes}
 use Rattle.rv_machine.specs.Effect.{effect}
 use Rattle.rv_machine.specs.Step.{gives}
 use Rattle.rv_machine.proofs.Registers.{length-with_register, register-with_register_other, register-with_register_same}

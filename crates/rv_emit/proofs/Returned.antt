@@ -17,13 +17,15 @@ use Rattle.rv_code.specs.declared.instruction.Instr.TheVariants.{Addi, Jalr}
 use Rattle.rv_code.specs.Word.{word_of}
 use Rattle.rv_machine.specs.Word.{plus}
 use Rattle.rv_machine.specs.Fields.{extended}
-use Rattle.rv_machine.specs.State.{Bytes, State, register, number_at}
+use Rattle.rv_machine.specs.State.{State, register, number_at}
+use Rattle.rv_memory.specs.Ranges.{Bytes, Range, Within}
 use Rattle.rv_machine.proofs.Registers.{register-with_register_same, register-with_register_other}
 use Rattle.rv_machine.proofs.Runs.{Leads, stays, leads_then}
 use Rattle.rv_emit.specs.Fit.{all_fit}
 use Rattle.rv_emit.specs.Whole.{Placement, behind, stack_of, saves, restores, moves_in, moves_out, body_with, code_with}
-use Rattle.rv_emit.specs.Ready.{Range, Within, stack_range, Ready, IsPart, arguments}
-use Rattle.rv_emit.specs.Returns.{IsSaved, IsUnderWay, Returns, RunsAs}
+use Rattle.rv_emit.specs.Ready.{stack_range, Ready, IsPart, arguments}
+use Rattle.rv_emit.specs.Returns.{IsUnderWay, Returns, RunsAs}
+use Rattle.rv_machine.specs.Machines.{IsSaved}
 use Rattle.rv_emit.proofs.Site.{Site, InCode, InSlots, Sound, Memory, IsFree, Before}
 use Rattle.rv_emit.proofs.Runs.{Has, HasAll, has_front, has_back, Reaches, gives_is}
 use Rattle.rv_emit.proofs.Straight.{Enough}

@@ -10,7 +10,8 @@ use Rattle.reg_alloc.specs.declared.plan.At.TheVariants.{Reg as Register, Slot}
 use Rattle.rv_code.specs.declared.instruction.Instr.{Instr}
 use Rattle.rv_code.specs.Word.{word_of}
 use Rattle.rv_machine.specs.Word.{plus}
-use Rattle.rv_machine.specs.State.{Bytes, State, register, with_register, number_at}
+use Rattle.rv_machine.specs.State.{State, register, with_register, number_at}
+use Rattle.rv_memory.specs.Ranges.{Bytes}
 use Rattle.rv_machine.specs.Effect.{effect}
 use Rattle.rv_machine.specs.Step.{Answer, gives, step}
 use Rattle.rv_machine.proofs.Memory.{number_at_agree}

@@ -4,7 +4,8 @@ use Rattle.std.specs.FinMap.{get, insert}
 use Rattle.flat_lang.specs.State.{Vars}
 use Rattle.reg_alloc.specs.declared.plan.At.{At}
 use Rattle.rv_code.specs.declared.instruction.Instr.{Instr}
-use Rattle.rv_machine.specs.State.{Bytes, State, register}
+use Rattle.rv_machine.specs.State.{State, register}
+use Rattle.rv_memory.specs.Ranges.{Bytes}
 use Rattle.rv_machine.proofs.Memory.{get-insert_same, get-insert_other}
 use Rattle.rv_machine.proofs.Runs.{Leads, stays, leads_on, leads_then}
 use Rattle.rv_emit.specs.Code.{save}

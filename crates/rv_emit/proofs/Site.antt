@@ -6,7 +6,8 @@ use Rattle.reg_alloc.specs.declared.plan.At.{At}
 use Rattle.reg_alloc.specs.declared.plan.At.TheVariants.{Reg as Register, Slot}
 use Rattle.rv_code.specs.declared.instruction.Instr.{Instr}
 use Rattle.rv_code.specs.Word.{word_of}
-use Rattle.rv_machine.specs.State.{Bytes, State, register, number_at}
+use Rattle.rv_machine.specs.State.{State, register, number_at}
+use Rattle.rv_memory.specs.Ranges.{Bytes}
 
 -- the code begins at `start`, and the text of its tables lies behind it; the frame's `words` begin at `base`, and the
 -- first `slots` of them hold variables; each of the variables below `vars` has its place, each table its distance from

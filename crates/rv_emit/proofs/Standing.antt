@@ -2,9 +2,9 @@
 use Rattle.std.proofs.Common.{◌≡◌, ℕ, zero, suc, ◌+◌, ◌*◌, ◌/◌, ◌%◌, ◌^◌, ◌<◌, List, [], ◌∷◌, ◌++◌, length, Some, slice_get, refl, ap, ◌∙◌, arith, zero-add, length-append}
 use Rattle.std.specs.List.{flat_map}
 use Rattle.std.specs.Int.{w32, to_le_bytes}
-use Rattle.rv_machine.specs.State.{Bytes, number_at}
+use Rattle.rv_machine.specs.State.{number_at}
+use Rattle.rv_memory.specs.Ranges.{Bytes, Stands}
 use Rattle.rv_machine.proofs.Memory.{number_at_four}
-use Rattle.rv_emit.specs.Ready.{Stands}
 
 abbrev word_bytes : List ℕ → List ℕ
 word_bytes words = flat_map (to_le_bytes w32) words

@@ -5,13 +5,11 @@ use Rattle.bed_syntax.specs.declared.weights.Weights.{Weights}
 use Rattle.flat_lang.specs.State.{Vars}
 use Rattle.flat_lang.specs.declared.flat.Flat.{Flat}
 use Rattle.flat_lang.specs.Meaning.{exec}
-use Rattle.rv_machine.specs.State.{Bytes, State, register}
+use Rattle.rv_machine.specs.State.{State, register}
+use Rattle.rv_memory.specs.Ranges.{Bytes, Range, Within}
+use Rattle.rv_machine.specs.Machines.{IsSaved}
 use Rattle.rv_machine.specs.Step.{after}
-use Rattle.rv_emit.specs.Ready.{Range, Within, stack_range, Ready, IsPart, arguments}
-
--- sp, gp and tp are x2 to x4; s0 and s1 are x8 and x9; s2 to s11 are x18 to x27
-abbrev pub IsSaved : ℕ → Type 0
-IsSaved r = ((2 ≤ r) × (r ≤ 4)) ⊎ (((8 ≤ r) × (r ≤ 9)) ⊎ ((18 ≤ r) × (r ≤ 27)))
+use Rattle.rv_emit.specs.Ready.{stack_range, Ready, IsPart, arguments}
 
 -- before a step of the call: no step has trapped, and the place lies in the code
 pub record IsUnderWay (words : List ℕ) (start : ℕ) (s : State) (j : ℕ) : Type 0 where

@@ -2,7 +2,8 @@
 use Rattle.std.proofs.Common.{◌≡◌, ◌≢◌, ℕ, zero, suc, ◌+◌, ◌*◌, ◌/◌, ◌%◌, ◌^◌, ◌<◌, ◌≤◌, Option, Some, None, IsSome, refl, ◌∙◌, arith, pow-suc}
 use Rattle.std.specs.FinMap.{get, insert, gets}
 use borrow.Author.Rules.{rules}
-use Rattle.rv_machine.specs.State.{Bytes, joined, number_at, with_number}
+use Rattle.rv_machine.specs.State.{joined, number_at, with_number}
+use Rattle.rv_memory.specs.Ranges.{Bytes}
 
 pub get-insert_same : (m : Bytes) (a b : ℕ) → get (insert m a b) a ≡ Some b
 get-insert_same m a b = grind (gets, rules)

@@ -3,7 +3,8 @@ use Rattle.std.proofs.Common.{◌≡◌, ℕ, zero, suc, ◌+◌, ◌/◌, ◌%�
 use Rattle.std.specs.Ordering.{nat_cmp, eq_by_cmp}
 use Rattle.std.specs.Cmp.{nat_cmp_total}
 use Rattle.std.specs.FinMap.{get, insert, get-insert}
-use Rattle.rv_machine.specs.State.{Bytes, joined, number_at, with_number}
+use Rattle.rv_machine.specs.State.{joined, number_at, with_number}
+use Rattle.rv_memory.specs.Ranges.{Bytes}
 
 first_of : (x y : Option ℕ) → is_some (joined x y) ≡ true → is_some x ≡ true
 first_of (Some low) (Some high) e = refl

@@ -6,3 +6,4 @@ pub mod Effect
 pub mod View
 pub mod Run
 pub mod Causes
+pub mod Machines

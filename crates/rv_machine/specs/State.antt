@@ -1,11 +1,8 @@
 -- The state of the machine, and its memory: a finite map from addresses to bytes
 -- (RISC-V Unprivileged ISA 20191213, sections 1.4 and 2.1).
 use Rattle.std.specs.Prelude.{ℕ, zero, suc, ◌+◌, ◌*◌, ◌/◌, ◌%◌, List, Option, Some, None, ◌==◌, if◌then◌else◌, slice_index, slice_set}
-use Rattle.std.specs.Ordering.{nat_cmp}
-use Rattle.std.specs.FinMap.{FinMap, get, insert}
-
-abbrev pub Bytes : Type 0
-Bytes = FinMap nat_cmp ℕ
+use Rattle.std.specs.FinMap.{get, insert}
+use Rattle.rv_memory.specs.Ranges.{Bytes}
 
 -- thirty-two registers, the place of the next instruction, and the memory
 pub record State : Type 0 where

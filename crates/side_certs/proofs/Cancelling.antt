@@ -12,7 +12,7 @@ use Rattle.side_certs.specs.declared.certificate.Entry.{Entry}
 use Rattle.side_certs.specs.LinearForm.{LinearForm, symbol, below, share, coefficient, terms_at, value_at}
 use Rattle.side_certs.specs.Closes.{greatest_multiplier, most_entries, form_of, named, all_named, in_range, is_enough, multiple, summed, left, number_at, Closes, cancels, cancels_in, cancels_all, rest_of, leaves_number, closes, Holds}
 use Rattle.side_certs.proofs.Terms.{both, and_parts}
-use Rattle.side_certs.proofs.Products.{sum_times, times_sum, times_times, not_below, product_not_below}
+use Rattle.side_certs.proofs.laws.Products.{sum_times, times_sum, times_times, not_below, product_not_below}
 
 rest_is : {X : Type 0} (x : X) (xs : List X) → take (length (x ∷ xs) - 1) (drop 1 (x ∷ xs)) ≡ xs
 rest_is x xs = let size : length (x ∷ xs) - 1 ≡ length xs = omega arith in rw size (take-length xs)
@@ -151,7 +151,7 @@ values_joined numbers (t ∷ ts) us = omega (arith, ints, values_joined numbers 
 values_multiplied : (numbers : ℕ → ℕ) (m : ℕ) (ts : List (ℕ × ℤ)) → terms_at numbers (by_number m ts) ≡ pos m *ℤ terms_at numbers ts
 values_multiplied numbers m [] = omega (arith, ints)
 values_multiplied numbers m (t ∷ ts) =
-    omega (arith, ints, times_times m t.1 (numbers t.0), values_multiplied numbers m ts, times_sum (pos m) (t.1 *ℤ pos (numbers t.0)) (terms_at numbers ts))
+    omega (arith, ints, times_times (pos m) t.1 (numbers t.0), values_multiplied numbers m ts, times_sum (pos m) (t.1 *ℤ pos (numbers t.0)) (terms_at numbers ts))
 
 values_negated : (numbers : ℕ → ℕ) (ts : List (ℕ × ℤ)) → terms_at numbers (negated ts) ≡ neg_ℤ (terms_at numbers ts)
 values_negated numbers [] = omega (arith, ints)
@@ -298,7 +298,7 @@ cancels_all_where rest zeros facts tops (e ∷ es) = both (by_form (named facts 
     by_form None = refl
     by_form (Some f) = cancels_where rest zeros f.terms
 
-closes_parts : (facts : List LinearForm) (tops : List ℕ) (goal : LinearForm) (cert : Cert) → closes facts tops goal cert ≡ true → Closes facts tops goal cert
+pub closes_parts : (facts : List LinearForm) (tops : List ℕ) (goal : LinearForm) (cert : Cert) → closes facts tops goal cert ≡ true → Closes facts tops goal cert
 closes_parts facts tops goal cert test =
     let p = and_parts (in_range cert && all_named facts tops cert.entries && leaves_number facts tops goal cert) (is_enough cert.d (left (number_at None) facts tops goal cert)) test in
     let q = and_parts (in_range cert && all_named facts tops cert.entries) (leaves_number facts tops goal cert) p.0 in

@@ -1,3 +1,3 @@
 mod Cancelling
-mod Products
+mod Summing
 pub mod Terms

@@ -7,25 +7,12 @@ use Rattle.std.proofs.lemmas.List.{take_more_set}
 use Rattle.std.proofs.Math.Seq.{take-length}
 use Rattle.std.proofs.lemmas.Int.{ints, fits_signed_from_abs, unsigned_abs-mul}
 use Rattle.std.specs.Int.{w64}
+pub use Rattle.side_certs.proofs.laws.Limits.{both, and_parts, all_small-append, small_fits, rises_parts, rises_made, merge_rises, times_rise, coefficient_before}
 use Rattle.side_certs.specs.LinearForm.{LinearForm, is_small, all_small, is_within, within, keep, keep_all, merge_into, merge, rises_from, has_room, put_behind, coefficient, terms_times, times}
-
-pub both : {a b : Bool} → a ≡ true → b ≡ true → (a && b) ≡ true
-both {a = true} {b = b} p q = q
-both {a = false} {b = b} p q = absurd (cc)
-
-pub and_parts : (a b : Bool) → (a && b) ≡ true → (a ≡ true) × (b ≡ true)
-and_parts true b h = (refl, h)
-and_parts false b h = absurd (cc)
 
 and_false : (a b : Bool) → b ≡ false → (a && b) ≡ false
 and_false true b h = h
 and_false false b h = refl
-
-pub all_small-append : (ts : List (ℕ × ℤ)) (u : ℕ × ℤ) → all_small ts ≡ true → is_small u.1 ≡ true → all_small (ts ++ u ∷ []) ≡ true
-all_small-append [] u all small = both small refl
-all_small-append (t ∷ ts) u all small =
-    let p = and_parts (is_small t.1) (all_small ts) all in
-    both p.0 (all_small-append ts u p.1 small)
 
 all_small-not : (ts : List (ℕ × ℤ)) (u : ℕ × ℤ) (us : List (ℕ × ℤ)) → is_small u.1 ≡ false → all_small (ts ++ u ∷ us) ≡ false
 all_small-not [] u us large = rw large refl
@@ -89,9 +76,6 @@ no_room f out s k number us full same whole = by_tests (int_eq k (pos 0)) (nat_l
 -- a form of 16 terms has no room
 pub full : (f : LinearForm) (k : ℤ) → length f.terms ≡ 16 → int_eq k (pos 0) ≡ false → false ≡ has_room f k
 full f k size not_zero = rw (not_zero, size) refl
-
-pub small_fits : (k : ℤ) → is_small k ≡ true → SFits w64 k
-small_fits k small = let below : nat_abs k ≤ 2 ^ 40 = leb-true _ _ small in fits_signed_from_abs w64 k (omega arith)
 
 two_equal : (t u : ℕ × ℤ) (ts us : List (ℕ × ℤ)) (k : ℤ) → t.0 ≡ u.0 → k ≡ t.1 +ℤ u.1 → merge (t ∷ ts) (u ∷ us) ≡ keep t.0 k (merge ts us)
 two_equal t u ts us k same sum =
@@ -171,71 +155,6 @@ not_none f o p q = let e : ◌≡◌ {A = Option LinearForm} None (Some f) = p �
 
 -- Symbols that rise.
 
-pub rises_parts : (least : ℕ) (t : ℕ × ℤ) (ts : List (ℕ × ℤ)) → rises_from least (t ∷ ts) ≡ true → (least ≤ t.0) × (int_eq t.1 (pos 0) ≡ false) × (rises_from (t.0 + 1) ts ≡ true)
-rises_parts least t ts rise =
-    let p = and_parts (nat_le least t.0 && not (int_eq t.1 (pos 0))) (rises_from (t.0 + 1) ts) rise in
-    let q = and_parts (nat_le least t.0) (not (int_eq t.1 (pos 0))) p.0 in
-    (leb-true _ _ q.0, not_true (int_eq t.1 (pos 0)) q.1, p.1)
-  where
-    not_true : (b : Bool) → not b ≡ true → b ≡ false
-    not_true true e = absurd (cc)
-    not_true false e = refl
-
-pub rises_made : (least : ℕ) (t : ℕ × ℤ) (ts : List (ℕ × ℤ)) → least ≤ t.0 → int_eq t.1 (pos 0) ≡ false → rises_from (t.0 + 1) ts ≡ true → rises_from least (t ∷ ts) ≡ true
-rises_made least t ts le not_zero rest = both (both (le-leb _ _ le) (rw not_zero refl)) rest
-
-rises_lower : (least less : ℕ) (ts : List (ℕ × ℤ)) → less ≤ least → rises_from least ts ≡ true → rises_from less ts ≡ true
-rises_lower least less [] le rise = refl
-rises_lower least less (t ∷ ts) le rise = let p = rises_parts least t ts rise in rises_made less t ts (omega arith) p.1 p.2
-
-rises_keep : (least s : ℕ) (k : ℤ) (ts : List (ℕ × ℤ)) → least ≤ s → rises_from (s + 1) ts ≡ true → rises_from least (keep s k ts) ≡ true
-rises_keep least s k ts le rest = by_test (int_eq k (pos 0)) refl
-  where
-    by_test : (zero : Bool) → int_eq k (pos 0) ≡ zero → rises_from least (keep s k ts) ≡ true
-    by_test true e = rw e (rises_lower (s + 1) least ts (omega arith) rest)
-    by_test false e = rw e (rises_made least (s, k) ts le e rest)
-
-rises_keep_all : (least : ℕ) (ts : List (ℕ × ℤ)) → rises_from least ts ≡ true → rises_from least (keep_all ts) ≡ true
-rises_keep_all least [] rise = refl
-rises_keep_all least (t ∷ ts) rise = let p = rises_parts least t ts rise in rises_keep least t.0 t.1 (keep_all ts) p.0 (rises_keep_all (t.0 + 1) ts p.2)
-
-Rises_with : List (ℕ × ℤ) → (List (ℕ × ℤ) → List (ℕ × ℤ)) → Type 0
-Rises_with ts rest = (least : ℕ) (us : List (ℕ × ℤ)) → rises_from least ts ≡ true → rises_from least us ≡ true → rises_from least (rest us) ≡ true
-
-rises_into : (t : ℕ × ℤ) (ts : List (ℕ × ℤ)) (rest : List (ℕ × ℤ) → List (ℕ × ℤ)) (least : ℕ) (us : List (ℕ × ℤ)) → Rises_with ts rest
-    → rises_from least (t ∷ ts) ≡ true → rises_from least us ≡ true → rises_from least (merge_into t rest us) ≡ true
-unfolding Rises_with
-rises_into t ts rest least [] all rise others = let p = rises_parts least t ts rise in rises_keep least t.0 t.1 (rest []) p.0 (all (t.0 + 1) [] p.2 refl)
-rises_into t ts rest least (u ∷ us) all rise others = by_tests (λ a b. rises_into t ts rest (u.0 + 1) us all a b) (nat_lt t.0 u.0) (nat_eq t.0 u.0) refl refl
-  where
-    by_tests : (rises_from (u.0 + 1) (t ∷ ts) ≡ true → rises_from (u.0 + 1) us ≡ true → rises_from (u.0 + 1) (merge_into t rest us) ≡ true)
-        → (less equal : Bool) → nat_lt t.0 u.0 ≡ less → nat_eq t.0 u.0 ≡ equal → rises_from least (merge_into t rest (u ∷ us)) ≡ true
-    by_tests next true equal l e =
-        let p = rises_parts least t ts rise in
-        let q = rises_parts least u us others in
-        rw l (rises_keep least t.0 t.1 (rest (u ∷ us)) p.0 (all (t.0 + 1) (u ∷ us) p.2 (rises_made (t.0 + 1) u us (let lt : t.0 < u.0 = ltb-true _ _ l in omega arith) q.1 q.2)))
-    by_tests next false true l e =
-        let p = rises_parts least t ts rise in
-        let q = rises_parts least u us others in
-        let same : t.0 ≡ u.0 = eqb-true _ _ e in
-        rw (l, e) (rises_keep least t.0 (t.1 +ℤ u.1) (rest us) p.0 (all (t.0 + 1) us p.2 (rw same q.2)))
-    by_tests next false false l e =
-        let p = rises_parts least t ts rise in
-        let q = rises_parts least u us others in
-        let le : u.0 ≤ t.0 = ltb-false _ _ l in
-        let not_same : nat_eq u.0 t.0 ≡ false = grind (arith, nat_tests) in
-        let above : u.0 + 1 ≤ t.0 = grind (arith, nat_tests) in
-        rw (l, e) (rises_keep least u.0 u.1 (merge_into t rest us) q.0 (next (rises_made (u.0 + 1) t ts above p.1 p.2) q.2))
-
-pub merge_rises : (ts us : List (ℕ × ℤ)) (least : ℕ) → rises_from least ts ≡ true → rises_from least us ≡ true → rises_from least (merge ts us) ≡ true
-unfolding Rises_with
-merge_rises [] us least rise others = rises_keep_all least us others
-merge_rises (t ∷ ts) us least rise others = rises_into t ts (merge ts) least us (λ l vs r o. merge_rises ts vs l r o) rise others
-
-pub times_rise : (k : ℤ) (least : ℕ) (ts : List (ℕ × ℤ)) → rises_from least ts ≡ true → rises_from least (terms_times k ts) ≡ true
-times_rise k least [] rise = refl
-times_rise k least (t ∷ ts) rise = let p = rises_parts least t ts rise in rises_keep least t.0 (k *ℤ t.1) (terms_times k ts) p.0 (times_rise k (t.0 + 1) ts p.2)
-
 rises_front : (least : ℕ) (ts us : List (ℕ × ℤ)) → rises_from least (ts ++ us) ≡ true → rises_from least ts ≡ true
 rises_front least [] us rise = refl
 rises_front least (t ∷ ts) us rise = let p = rises_parts least t (ts ++ us) rise in rises_made least t ts p.0 p.1 (rises_front (t.0 + 1) ts us p.2)
@@ -254,15 +173,6 @@ rises_more slots count u below not_zero rise =
     let more : take (count + 1) (set slots count u) ≡ take count slots ++ u ∷ [] = take_more_set slots count u (omega arith) in
     let kept : keep u.0 u.1 [] ≡ u ∷ [] = rw not_zero refl in
     rw (more, ← kept) rise
-
--- a symbol before those of terms has no coefficient there
-pub coefficient_before : (s least : ℕ) (ts : List (ℕ × ℤ)) → s < least → rises_from least ts ≡ true → coefficient s ts ≡ pos 0
-coefficient_before s least [] before rise = refl
-coefficient_before s least (t ∷ ts) before rise =
-    let p = rises_parts least t ts rise in
-    let other : nat_eq t.0 s ≡ false = grind (arith, nat_tests, p.0) in
-    let rest : coefficient s ts ≡ pos 0 = coefficient_before s (t.0 + 1) ts (omega (arith, p.0)) p.2 in
-    rw (other, rest) refl
 
 -- of terms whose symbols rise, the first one of a symbol has its coefficient
 pub coefficient_found : (s : ℕ) (ts : List (ℕ × ℤ)) → 1 ≤ length ts → rises_from 0 ts ≡ true → (slice_index_or ts 0 (0, pos 0)).0 ≡ s → (slice_index_or ts 0 (0, pos 0)).1 ≡ coefficient s ts

@@ -151,7 +151,7 @@ fn left(facts: &[Form], tops: &[u32], goal: &Form, cert: &Cert, place: Option<u3
     requires { certificate.in_range cert.now ≡ true }
     ensures { result ≡ certificate.left (certificate.number_at place) facts.now tops.now goal.now cert.now }
 {
-    times(cert.d, number_at(goal, place)) - summed(facts, tops, cert.entries.as_slice(), place)
+    times(cert.d, goal.number_at(place)) - summed(facts, tops, cert.entries.as_slice(), place)
 }
 
 fn summed(facts: &[Form], tops: &[u32], entries: &[Entry], place: Option<u32>) -> i128
@@ -178,7 +178,7 @@ fn multiple(facts: &[Form], tops: &[u32], entry: Entry, place: Option<u32>) -> i
     }
     match named(facts, tops, entry) {
         None => 0,
-        Some(form) => times(entry.mult, number_at(&form, place)),
+        Some(form) => times(entry.mult, form.number_at(place)),
     }
 }
 
@@ -190,15 +190,4 @@ fn times(multiplier: u64, number: i128) -> i128
     ensures near { certificate.Near (2 ^ 95) result }
 {
     i128::from(multiplier) * number
-}
-
-/// The constant, or the coefficient of a symbol.
-fn number_at(form: &Form, place: Option<u32>) -> i128
-    ensures number { result ≡ certificate.number_at place form.now }
-    ensures near { certificate.Near (2 ^ 63) result }
-{
-    match place {
-        None => i128::from(form.constant_part()),
-        Some(s) => i128::from(form.coefficient(s)),
-    }
 }

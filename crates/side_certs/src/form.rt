@@ -1,7 +1,9 @@
 //! A linear form: a constant, and at most 16 symbols with a coefficient each.
-ghost use Rattle.std.specs.Prelude.{◌≡◌, [], ◌∷◌, ◌++◌, ◌+◌, ◌<◌, ◌≤◌, ◌+ℤ◌, ◌*ℤ◌, ◌↔◌, List, ℕ, ℤ, pos, length, true, false, slice_get, Some, IsTrue, MatchOption, if◌then◌else◌, ◌&&◌, nat_lt};
+ghost use Rattle.std.specs.Prelude.{◌≡◌, [], ◌∷◌, ◌++◌, ◌+◌, ◌<◌, ◌≤◌, ◌+ℤ◌, ◌*ℤ◌, ◌^◌, ◌↔◌, List, ℕ, ℤ, pos, length, true, false, slice_get, Some, IsTrue, MatchOption, if◌then◌else◌, ◌&&◌, nat_lt};
 ghost use Rattle.std.specs.Ordering.{int_eq};
 ghost use Rattle.side_certs.specs.LinearForm as linear;
+ghost use Rattle.side_certs.specs.Closes.{Near, number_at};
+ghost use Rattle.side_certs.specs.Combination.{IsNext};
 
 use std::marker::Model;
 
@@ -67,7 +69,8 @@ impl Form {
 
     /// The number that is added to the terms.
     pub fn constant_part(&self) -> i64
-        ensures { result ≡ self.now.constant }
+        ensures constant { result ≡ self.now.constant }
+        ensures small { linear.is_small result ≡ true }
     {
         self.constant
     }
@@ -91,7 +94,8 @@ impl Form {
 
     /// The coefficient of the symbol `s`, 0 where no term has it.
     pub fn coefficient(&self, s: u32) -> i64
-        ensures { result ≡ linear.coefficient s self.now.terms }
+        ensures coefficient { result ≡ linear.coefficient s self.now.terms }
+        ensures small { linear.is_small result ≡ true }
     {
         let mut left = self.all_terms();
         'terms: while let [term, rest @ ..] = left {
@@ -151,6 +155,32 @@ impl Form {
         }
     }
 
+    /// The constant, or the coefficient of a symbol.
+    pub(crate) fn number_at(&self, place: Option<u32>) -> i128
+        ensures number { result ≡ number_at place self.now }
+        ensures near { Near (2 ^ 40) result }
+    {
+        match place {
+            None => i128::from(self.constant_part()),
+            Some(s) => i128::from(self.coefficient(s)),
+        }
+    }
+
+    /// The first symbol from `least` on.
+    pub(crate) fn symbol_from(&self, least: u64) -> Option<u32>
+        ensures next { IsNext self.now least result }
+        ensures rising { linear.rises_from 0 self.now.terms ≡ true }
+    {
+        let mut left = self.all_terms();
+        'terms: while let [term, rest @ ..] = left {
+            if least <= u64::from(term.0) {
+                return Some(term.0);
+            }
+            left = rest;
+        }
+        None
+    }
+
     /// The form again.
     pub fn copy(&self) -> Form
         ensures { result ≡ self.now }
@@ -172,7 +202,7 @@ impl Form {
     }
 
     /// Puts a term behind the last one, where it has room; a coefficient 0 leaves nothing to put.
-    fn push(&mut self, symbol: u32, coefficient: i128) -> bool
+    pub(crate) fn push(&mut self, symbol: u32, coefficient: i128) -> bool
         requires { linear.rises_from 0 (self.old.terms ++ linear.keep symbol coefficient []) ≡ true }
         ensures room { result ≡ linear.has_room self.old coefficient }
         ensures put { self.new ≡ (if result then linear.put_behind self.old symbol coefficient else self.old) }
@@ -191,14 +221,15 @@ impl Form {
         true
     }
 
-    /// Each form passes no limit.
-    fn done(self) -> Option<Form>
+    /// Each form passes no limit. The call stands for the proof alone, as `keeps_limits`.
+    pub(crate) fn done(self) -> Option<Form>
         ensures { result ≡ linear.within self }
     {
         let _ = &self.constant;
         Some(self)
     }
 
+    /// Each form passes no limit. The call stands for the proof alone, and does nothing.
     fn keeps_limits(&self)
         ensures { linear.is_within self.now ≡ true }
     {
@@ -206,7 +237,7 @@ impl Form {
     }
 
     /// The number alone, of which the terms of a result are put behind one another.
-    fn start(k: i128) -> Option<Form>
+    pub(crate) fn start(k: i128) -> Option<Form>
         ensures within { result ≡ linear.within (linear.constant k) }
         ensures started { MatchOption result (linear.is_small k ≡ false) (λ f. (f.constant ≡ k) × (f.terms ≡ [])) }
     {

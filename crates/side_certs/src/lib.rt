@@ -5,11 +5,13 @@
 
 mod certificate;
 mod closing;
+mod combining;
 mod form;
-mod laws;
+pub mod laws;
 
 pub use certificate::{Cert, Entry};
 pub use closing::closes;
+pub use combining::{judged, lesser, Combination, Part};
 pub use form::Form;
 pub use laws::closing_gives_goal;
 

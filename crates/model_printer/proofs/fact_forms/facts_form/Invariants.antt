@@ -1,5 +1,5 @@
 use Rattle.std.proofs.Common.{◌≡◌, map, drop, ◌++◌, ◌∷◌}
-use Rattle.model_printer.specs.Formed.{facts_formed}
+use Rattle.model_syntax.specs.Formed.{facts_formed}
 use Rattle.model_printer.specs.Printing.{atom, fact}
 use Rattle.model_printer.proofs.fact_forms.facts_form.Given as goal
 

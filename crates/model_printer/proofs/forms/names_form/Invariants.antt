@@ -1,5 +1,5 @@
 use Rattle.std.proofs.Common.{◌≡◌, map, drop, ◌++◌}
-use Rattle.model_printer.specs.Formed.{names_formed}
+use Rattle.model_syntax.specs.Formed.{names_formed}
 use Rattle.model_printer.specs.Printing.{atom}
 use Rattle.model_printer.proofs.forms.names_form.Given as goal
 

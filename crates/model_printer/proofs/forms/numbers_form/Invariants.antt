@@ -1,5 +1,5 @@
 use Rattle.std.proofs.Common.{◌≡◌, map, drop, ◌++◌}
-use Rattle.model_printer.specs.Formed.{numbers_formed}
+use Rattle.model_syntax.specs.Formed.{numbers_formed}
 use Rattle.model_printer.specs.Printing.{number}
 use Rattle.model_printer.proofs.forms.numbers_form.Given as goal
 

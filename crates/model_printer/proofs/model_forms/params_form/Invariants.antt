@@ -1,6 +1,6 @@
 use Rattle.std.proofs.Common.{◌≡◌, map, drop, ◌++◌, ◌∷◌, codes}
 use Rattle.rup_base.specs.Gather.{all_true}
-use Rattle.model_printer.specs.Formed.{param_formed}
+use Rattle.model_syntax.specs.Formed.{param_formed}
 use Rattle.model_printer.specs.Printing.{atom, param}
 use Rattle.model_printer.proofs.model_forms.params_form.Given as goal
 

@@ -1,6 +1,6 @@
 use Rattle.std.proofs.Common.{◌≡◌, map, drop, ◌++◌, ◌∷◌, codes}
 use Rattle.rup_base.specs.Gather.{all_true}
-use Rattle.model_printer.specs.Formed.{ret_formed}
+use Rattle.model_syntax.specs.Formed.{ret_formed}
 use Rattle.model_printer.specs.Printing.{atom, ret}
 use Rattle.model_printer.proofs.model_forms.rets_form.Given as goal
 

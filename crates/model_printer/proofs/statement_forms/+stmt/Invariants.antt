@@ -1,6 +1,6 @@
 use Rattle.std.proofs.Common.{◌≡◌, map, drop, ◌++◌, ◌∷◌, codes}
 use Rattle.rup_base.specs.Gather.{all_true}
-use Rattle.model_printer.specs.Formed.{stmt_formed}
+use Rattle.model_syntax.specs.Formed.{stmt_formed}
 use Rattle.model_printer.specs.Printing.{atom, stmt}
 use Rattle.model_printer.proofs.statement_forms.+stmt.Given as goal
 

@@ -1,6 +1,7 @@
--- Models whose names are names and whose numbers are words. Every model of the code is one: the types `Name`
--- and `u32` keep it, while in a clause a name is only its bytes and a number has no end.
-use Rattle.std.specs.Prelude.{ℕ, nat_le, Bool, ◌&&◌, List, map}
+-- Formed terms: their names are names, and their literals, table entries and lengths are words. Every term of the code is
+-- one: the types `Name` and `u32` keep it, while in a clause a name is only its bytes and a number has no end.
+-- (That the entries of a table of bytes are bytes is `Spellable`.)
+use Rattle.std.specs.Prelude.{ℕ, Bool, ◌&&◌, List, map}
 use Rattle.rup_base.specs.Name.{is_name}
 use Rattle.rup_base.specs.Gather.{all_true}
 use Rattle.model_syntax.specs.declared.expr.Expr.{Expr, Expr-F, fold-Expr}
@@ -17,10 +18,7 @@ use Rattle.model_syntax.specs.declared.program.Param.TheVariants as parameter
 use Rattle.model_syntax.specs.declared.program.Ret.{Ret}
 use Rattle.model_syntax.specs.declared.program.Ret.TheVariants as result
 use Rattle.model_syntax.specs.declared.program.Model.{Model}
-
--- the number has 32 bits
-abbrev pub is_word : ℕ → Bool
-is_word n = nat_le n 4294967295
+use Rattle.model_syntax.specs.Kinds.{is_word}
 
 abbrev pub numbers_formed : List ℕ → Bool
 numbers_formed ns = all_true (map is_word ns)

@@ -1,0 +1,6 @@
+pub mod Coefficients
+pub mod Known
+pub mod Limits
+pub mod Products
+pub mod Sums
+pub mod Values

@@ -1,5 +1,5 @@
 -- What the search finds closes: each entry takes its form off the goal, and what is left in the end is a number of at least 0.
-use Rattle.std.proofs.Common.{◌≡◌, ℕ, zero, suc, ◌+◌, ◌-◌, ◌<◌, ◌≤◌, Bool, true, false, not, ◌&&◌, ◌||◌, if◌then◌else◌, List, [], ◌∷◌, ◌++◌, length, take, Option, Some, None, option_map, option_and_then, ℤ, pos, negsuc, neg_ℤ, nat_abs, ◌+ℤ◌, ◌*ℤ◌, ◌≤ℤ◌, nat_le, nat_lt, nat_eq, refl, sym, ap, ◌∙◌, arith}
+use Rattle.std.proofs.Common.{◌≡◌, ℕ, zero, suc, ◌≤◌, Bool, true, false, not, ◌&&◌, ◌||◌, if◌then◌else◌, List, [], ◌∷◌, ◌++◌, length, take, Option, Some, None, option_map, option_and_then, ℤ, pos, negsuc, neg_ℤ, ◌≤ℤ◌, nat_le, nat_lt, refl, ◌∙◌, arith}
 use Rattle.std.specs.Prelude.{slice_get}
 use Rattle.std.specs.Option.{option_or}
 use Rattle.std.specs.List.{filter_map, list_all}
@@ -9,7 +9,6 @@ use Rattle.std.specs.Int.RustNames.{int_div, int_rem}
 use Rattle.std.specs.Ordering.{int_eq}
 use Rattle.std.proofs.lemmas.Int.{ints}
 use Rattle.std.proofs.lemmas.Bool.{le-leb, lt-ltb}
-use Rattle.side_certs.specs.declared.certificate.Cert.{Cert}
 use Rattle.side_certs.specs.declared.certificate.Entry.{Entry}
 use Rattle.side_certs.specs.LinearForm.{LinearForm, coefficient, is_within, within, minus, times}
 use Rattle.side_certs.specs.Closes.{greatest_multiplier, form_of, named, all_named, summed, number_at, Closes}
@@ -134,16 +133,16 @@ within_is f g is = by_test (is_within f) refl
 one_more : (facts : List LinearForm) (tops : List ℕ) (n : ℕ) (goal f : LinearForm) (e : Entry) (es : List Entry) → Fits facts tops e → named facts tops e ≡ Some f
     → Leads facts tops n (minus goal (times (pos e.mult) f)) es → Leads facts tops (suc n) goal (e ∷ es)
 one_more facts tops n goal f e es fits is l = record {
-    few = omega (arith, l.few);
-    ranges = both fits l.ranges;
-    names = rw is l.names;
-    number = λ s.
-    let less = coefficient_minus s goal (times (pos e.mult) f) in
-    let product = coefficient_scaled s (pos e.mult) f in
-    let rest = l.number s in
-    rw is (omega (arith, ints, less, product, rest));
-    enough = let rest = l.enough in rw is (omega (arith, ints, rest));
-  }
+  few = omega (arith, l.few);
+  ranges = both fits l.ranges;
+  names = rw is l.names;
+  number = λ s.
+      let less = coefficient_minus s goal (times (pos e.mult) f) in
+      let product = coefficient_scaled s (pos e.mult) f in
+      let rest = l.number s in
+      rw is (omega (arith, ints, less, product, rest));
+  enough = let rest = l.enough in rw is (omega (arith, ints, rest));
+}
 
 -- the first candidate that gives something
 by_first : {P : Type 0} (facts : List LinearForm) (tops : List ℕ) (attempt : Entry → Option (List Entry)) (es result : List Entry) → ((e : Entry) → Fits facts tops e → attempt e ≡ Some result → P) → AllFit facts tops es

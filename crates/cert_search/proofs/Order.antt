@@ -1,9 +1,9 @@
 -- The candidates one after the other, and what they give.
-use Rattle.std.proofs.Common.{◌≡◌, ℕ, zero, suc, ◌+◌, ◌-◌, ◌<◌, ◌≤◌, List, [], ◌∷◌, ◌++◌, length, take, Option, Some, None, ℤ, pos, refl, sym, ap, ◌∙◌, arith}
+use Rattle.std.proofs.Common.{◌≡◌, ℕ, zero, suc, ◌-◌, ◌<◌, List, [], ◌∷◌, ◌++◌, take, Option, Some, None, ℤ, refl, arith}
 use Rattle.std.specs.Prelude.{slice_get}
 use Rattle.side_certs.specs.declared.certificate.Entry.{Entry}
 use Rattle.side_certs.specs.LinearForm.{LinearForm, coefficient}
-use Rattle.cert_search.specs.Search.{quotient, entry, fact_entry, newest, fitting, first_of, by_least, entries, candidates, beginning, left}
+use Rattle.cert_search.specs.Search.{quotient, entry, fact_entry, fitting, first_of, by_least, entries, candidates, beginning, left}
 
 fact_entry_is : (facts : List LinearForm) (t : ℕ × ℤ) (i : ℕ) (f : LinearForm) → slice_get facts i ≡ Some f → fact_entry facts t i ≡ entry 0 i (quotient t.1 (coefficient t.0 f.terms))
 fact_entry_is facts t i f is = rw is refl

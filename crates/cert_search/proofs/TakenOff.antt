@@ -1,5 +1,5 @@
 -- The numbers of a goal less a form, times a multiplier, and its symbols.
-use Rattle.std.proofs.Common.{◌≡◌, ℕ, ◌≤◌, ◌<◌, Bool, true, false, nat_le, refl, if◌then◌else◌, List, Option, Some, None, ℤ, pos, neg_ℤ, ◌+ℤ◌, ◌*ℤ◌, ap, ◌∙◌, negsuc, arith}
+use Rattle.std.proofs.Common.{◌≡◌, ℕ, ◌≤◌, ◌<◌, Bool, true, false, nat_le, refl, if◌then◌else◌, Option, Some, None, pos, neg_ℤ, ◌+ℤ◌, ◌*ℤ◌, ap, ◌∙◌, negsuc, arith}
 use Rattle.std.proofs.lemmas.Int.{ints}
 use Rattle.side_certs.specs.LinearForm.{LinearForm, coefficient, rises_from, minus, times}
 use Rattle.side_certs.specs.Combination.{IsFrom, IsBefore, IsNext, lesser}
@@ -43,6 +43,6 @@ pub next_less : (goal f : LinearForm) (m least : ℕ) (a b : Option ℕ) → IsN
 next_less goal f m least a b one two = record {
   from = from_lesser least a b one.from two.from;
   before = λ r from before.
-    let both = before_lesser r a b before in
-    nothing_less r goal f m (one.before r from both.0) (two.before r from both.1);
+      let both = before_lesser r a b before in
+      nothing_less r goal f m (one.before r from both.0) (two.before r from both.1);
 }

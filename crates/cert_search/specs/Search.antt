@@ -3,7 +3,7 @@
 --
 -- A goal without symbols closes by its sign. In any other goal an entry is chosen that takes the least symbol out of it,
 -- and what is left of the goal is searched in turn, to four entries in all.
-use Rattle.std.specs.Prelude.{ℕ, zero, suc, Bool, true, not, ◌&&◌, ◌||◌, List, [], ◌∷◌, ◌++◌, length, take, slice_get, Option, Some, None, option_map, ℤ, pos, neg_ℤ, nat_abs, if◌then◌else◌}
+use Rattle.std.specs.Prelude.{ℕ, zero, suc, not, ◌&&◌, ◌||◌, List, [], ◌∷◌, ◌++◌, length, take, slice_get, Option, Some, None, option_map, ℤ, pos, neg_ℤ, nat_abs, if◌then◌else◌}
 use Rattle.std.specs.Option.{option_and_then, option_or}
 use Rattle.std.specs.List.{filter_map}
 use Rattle.std.specs.Int.Signed.{le_z}

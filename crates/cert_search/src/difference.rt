@@ -3,7 +3,7 @@ ghost use Rattle.std.specs.Prelude.{◌≡◌, ◌*ℤ◌, ◌^◌, pos, ⊤};
 ghost use Rattle.side_certs.specs.Closes.{Near};
 ghost use Rattle.side_certs.specs.LinearForm as linear;
 
-use side_certs::{judged, lesser, Combination, Form};
+use side_certs::{Combination, Form, judged, lesser};
 
 /// A goal less a form, times a multiplier.
 #[derive(Clone, Copy)]

@@ -17,7 +17,12 @@ const LEVELS: u32 = 4;
 const MOST_FACTS: u32 = 16;
 
 /// The certificate of the search for `goal`. None exactly where the search has none.
-pub fn find(alloc: Global, facts: &[Form], tops: &[u32], goal: &Form) -> Result<Option<Cert>, NoMemory>
+pub fn find(
+    alloc: Global,
+    facts: &[Form],
+    tops: &[u32],
+    goal: &Form,
+) -> Result<Option<Cert>, NoMemory>
     requires { length facts.now < 2 ^ 32 }
     ensures found { IfOk result (λ certificate. certificate ≡ spec.found facts.now tops.now goal.now) }
     ensures limits { IfOk result (λ certificate. ForSome certificate (Limited facts.now tops.now)) }
@@ -31,7 +36,13 @@ pub fn find(alloc: Global, facts: &[Form], tops: &[u32], goal: &Form) -> Result<
 
 /// The entries by which the goal closes, where there are at most so many.
 #[cycle(search)]
-fn entries(alloc: Global, facts: &[Form], tops: &[u32], levels: u32, goal: &Form) -> Result<Option<List<Entry>>, NoMemory>
+fn entries(
+    alloc: Global,
+    facts: &[Form],
+    tops: &[u32],
+    levels: u32,
+    goal: &Form,
+) -> Result<Option<List<Entry>>, NoMemory>
     requires { length facts.now < 2 ^ 32 }
     ensures { IfOk result (λ entries. entries ≡ spec.entries facts.now tops.now levels goal.now) }
 {

@@ -32,7 +32,11 @@ fn newer_facts_are_tried_first_and_given_up(rt: HostRuntime) -> Result<(), Fail>
             let entries = certificate.entries.as_slice();
             assert_eq!(rt; entries.len(), wanted.len(), "the number of entries");
             for (entry, (kind, number, mult)) in entries.iter().zip(wanted) {
-                assert_eq!(rt; (entry.kind, entry.number, entry.mult), (kind, number, mult), "an entry");
+                assert_eq!(rt;
+                    (entry.kind, entry.number, entry.mult),
+                    (kind, number, mult),
+                    "an entry"
+                );
             }
         }
     }

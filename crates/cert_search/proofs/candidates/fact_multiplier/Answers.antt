@@ -1,4 +1,4 @@
-use Rattle.std.proofs.Common.{◌≡◌, SFits, rules, to_z, of_z}
+use Rattle.std.proofs.Common.{SFits, rules}
 use Rattle.std.specs.Int.{w64}
 use Rattle.std.proofs.lemmas.Int.{to_z-of_z}
 use Rattle.cert_search.proofs.candidates.fact_multiplier.Goals as goal

@@ -1,4 +1,4 @@
-use Rattle.std.proofs.Common.{◌≡◌, ◌≤◌, length}
+use Rattle.std.proofs.Common.{◌≡◌, ◌≤◌}
 use Rattle.cert_search.specs.Search as spec
 use Rattle.cert_search.proofs.candidates.newest_fact.Given as goal
 

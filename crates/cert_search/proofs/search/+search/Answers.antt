@@ -1,5 +1,4 @@
-use Rattle.std.proofs.Common.{◌≡◌, ◌∷◌, ◌++◌, take, List, Some, None, Option, length, refl, sym, ap, ◌∙◌, arith, rules, IfOk}
-use Rattle.std.specs.Prelude.{slice_get}
+use Rattle.std.proofs.Common.{◌≡◌, ◌∷◌, ◌++◌, take, List, Some, None, refl, sym, ap, ◌∙◌, arith}
 use Rattle.side_certs.specs.declared.certificate.Entry.{Entry}
 use Rattle.cert_search.specs.Search as spec
 use Rattle.cert_search.proofs.Order.{first_gives, first_fails, none_left, none_fits, by_candidates}
@@ -30,9 +29,9 @@ first_candidate-facts-preserved t c =
     record {
       within = omega (arith, c.in-Some.ensures.0, c.facts.invariant.within);
       tried =
-      first_fails attempt c.facts.tries e older more (omega arith) fails
-      ∙ ap (λ (es : List Entry). spec.first_of attempt (take c.facts.tries es ++ more)) (sym c.in-Some.ensures.1)
-      ∙ c.facts.invariant.tried;
+          first_fails attempt c.facts.tries e older more (omega arith) fails
+          ∙ ap (λ (es : List Entry). spec.first_of attempt (take c.facts.tries es ++ more)) (sym c.in-Some.ensures.1)
+          ∙ c.facts.invariant.tried;
     }
 
 pub first_candidate-returns-in-None-symbol_entry : goal.first_candidate-returns-in-None-symbol_entry
@@ -42,6 +41,6 @@ first_candidate-returns-in-None-symbol_entry t c =
     let symbol : None ≡ spec.symbol_entry c.args.tops.now c.args.term = c.in-None-symbol_entry.ensures in
     let nothing : None ≡ spec.first_of attempt (spec.at_most_one (spec.symbol_entry c.args.tops.now c.args.term)) = rw (← symbol) refl in
     elim c.facts-test.branch [
-      first_candidate-else-facts-test w ↦ nothing ∙ sym (none_left attempt c.facts.tries older (spec.at_most_one (spec.symbol_entry c.args.tops.now c.args.term)) (omega arith)) ∙ c.facts.invariant.tried
+      | first_candidate-else-facts-test w ↦ nothing ∙ sym (none_left attempt c.facts.tries older (spec.at_most_one (spec.symbol_entry c.args.tops.now c.args.term)) (omega arith)) ∙ c.facts.invariant.tried
       | first_candidate-then-facts-test+in-None w ↦ nothing ∙ sym (none_fits attempt c.facts.tries older (spec.at_most_one (spec.symbol_entry c.args.tops.now c.args.term)) w.in-None.ensures) ∙ c.facts.invariant.tried
     ]

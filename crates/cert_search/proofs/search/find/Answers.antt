@@ -1,6 +1,4 @@
-use Rattle.std.proofs.Common.{◌≡◌, sym, ◌∙◌, Some, subst}
-use Rattle.side_certs.specs.declared.certificate.Cert.{Cert}
-use Rattle.side_certs.specs.Closes.{Closes}
+use Rattle.std.proofs.Common.{◌≡◌, sym, ◌∙◌}
 use Rattle.cert_search.proofs.Closing.{closing, limited}
 use Rattle.cert_search.proofs.search.find.Goals as goal
 

@@ -124,7 +124,7 @@ impl Poly {
         sum
     }
 
-    /// Each polynomial has its limits.
+    /// Each polynomial has its limits. The call stands for the proof alone, and does nothing.
     pub(crate) fn is_bounded(&self)
         ensures count { length self.now ≤ 45 }
         ensures coefficients { AllByRecursion polynomial.IsSmall self.now }

@@ -1,5 +1,5 @@
 -- Sums of multiples of forms: their numbers, and their symbols in order.
-use Rattle.std.proofs.Common.{◌≡◌, ℕ, ◌+◌, ◌-◌, ◌<◌, ◌≤◌, Bool, true, false, List, [], ◌∷◌, length, take, drop, slice_index_or, Option, Some, None, ℤ, pos, ◌+ℤ◌, ◌*ℤ◌, nat_le, if◌then◌else◌, refl, sym, ap, ◌∙◌, subst, arith}
+use Rattle.std.proofs.Common.{◌≡◌, ℕ, ◌+◌, ◌-◌, ◌<◌, ◌≤◌, Bool, true, false, List, [], ◌∷◌, length, take, drop, slice_index_or, Option, Some, None, ℤ, pos, ◌+ℤ◌, ◌*ℤ◌, nat_le, if◌then◌else◌, refl, sym, ap, ◌∙◌, arith}
 use Rattle.std.proofs.Math.Seq.{take-length}
 use Rattle.std.proofs.lemmas.Bool.Decides.{nat_tests}
 use Rattle.std.proofs.lemmas.Int.{ints}
@@ -65,11 +65,11 @@ pub next_plus : (f g : LinearForm) (least : ℕ) (a b : Option ℕ) → IsNext f
 next_plus f g least a b one two = record {
   from = from_lesser least a b one.from two.from;
   before = λ r from before.
-    let both = before_lesser r a b before in
-    let whole = coefficient_plus r f g in
-    let first = one.before r from both.0 in
-    let second = two.before r from both.1 in
-    omega (arith, ints, whole, first, second);
+      let both = before_lesser r a b before in
+      let whole = coefficient_plus r f g in
+      let first = one.before r from both.0 in
+      let second = two.before r from both.1 in
+      omega (arith, ints, whole, first, second);
 }
 
 pub sum_rises : (ts us : List (ℕ × ℤ)) (k : ℤ) → rises_from 0 ts ≡ true → rises_from 0 us ≡ true → rises_from 0 (merge (terms_times k ts) us) ≡ true
@@ -84,7 +84,7 @@ next_first f (t ∷ ts) least some rise same from =
     record {
       from = from;
       before = λ r least_r before. sym (same r least_r) ∙ (
-        let other : coefficient r (t ∷ ts) ≡ pos 0 = none p.2 r before in other);
+          let other : coefficient r (t ∷ ts) ≡ pos 0 = none p.2 r before in other);
     }
   where
     none : rises_from (t.0 + 1) ts ≡ true → (r : ℕ) → r < t.0 → coefficient r (t ∷ ts) ≡ pos 0

@@ -1,14 +1,13 @@
 -- Terms that are put behind one another, and the limits of what they make.
-use Rattle.std.proofs.Common.{◌≡◌, ℕ, ◌+◌, ◌-◌, ◌<◌, ◌≤◌, Bool, true, false, not, ◌&&◌, List, [], ◌∷◌, ◌++◌, length, take, drop, set, slice_index_or, Option, Some, None, ℤ, pos, negsuc, ◌+ℤ◌, ◌*ℤ◌, nat_lt, nat_le, refl, sym, ap, ◌∙◌, append_assoc, arith, length-append, length-take, nat_abs, ◌^◌, nat_eq, SFits}
+use Rattle.std.proofs.Common.{◌≡◌, ℕ, ◌+◌, ◌-◌, ◌<◌, ◌≤◌, Bool, true, false, ◌&&◌, List, [], ◌∷◌, ◌++◌, length, take, drop, set, slice_index_or, Option, Some, None, ℤ, pos, negsuc, ◌+ℤ◌, ◌*ℤ◌, nat_lt, nat_le, refl, sym, ap, ◌∙◌, append_assoc, arith, length-append, length-take, nat_abs, ◌^◌, nat_eq}
 use Rattle.std.specs.Ordering.{int_eq}
-use Rattle.std.proofs.lemmas.Bool.{ltb-false, ltb-true, eqb-true, le-leb, leb-true}
+use Rattle.std.proofs.lemmas.Bool.{ltb-false, le-leb, leb-true}
 use Rattle.std.proofs.lemmas.Bool.Decides.{nat_tests}
 use Rattle.std.proofs.lemmas.List.{take_more_set}
 use Rattle.std.proofs.Math.Seq.{take-length}
-use Rattle.std.proofs.lemmas.Int.{ints, fits_signed_from_abs, unsigned_abs-mul}
-use Rattle.std.specs.Int.{w64}
+use Rattle.std.proofs.lemmas.Int.{ints, unsigned_abs-mul}
 pub use Rattle.side_certs.proofs.laws.Limits.{both, and_parts, all_small-append, small_fits, rises_parts, rises_made, merge_rises, times_rise, coefficient_before}
-use Rattle.side_certs.specs.LinearForm.{LinearForm, is_small, all_small, is_within, within, keep, keep_all, merge_into, merge, rises_from, has_room, put_behind, coefficient, terms_times, times}
+use Rattle.side_certs.specs.LinearForm.{LinearForm, is_small, all_small, is_within, within, keep, merge, rises_from, has_room, put_behind, coefficient, terms_times, times}
 
 and_false : (a b : Bool) → b ≡ false → (a && b) ≡ false
 and_false true b h = h

@@ -4,7 +4,7 @@ use Rattle.std.specs.Int.Signed.{le_z}
 use Rattle.std.specs.Ordering.{int_eq}
 use Rattle.side_certs.specs.declared.certificate.Cert.{Cert}
 use Rattle.side_certs.specs.declared.certificate.Entry.{Entry}
-use Rattle.side_certs.specs.LinearForm.{LinearForm, symbol, below, coefficient, value_at}
+use Rattle.side_certs.specs.LinearForm.{LinearForm, symbol, below, share, coefficient, value_at}
 
 -- the greatest d, and the greatest multiplier of an entry
 abbrev pub greatest_multiplier : ℕ
@@ -56,6 +56,11 @@ left g facts tops goal cert = (pos cert.d *ℤ g goal) +ℤ neg_ℤ (summed g fa
 abbrev pub number_at : Option ℕ → LinearForm → ℤ
 number_at None f = f.constant
 number_at (Some s) f = coefficient s f.terms
+
+-- that number of the one term (s, k)
+abbrev pub share_at : Option ℕ → ℕ → ℤ → ℤ
+share_at None s k = pos 0
+share_at (Some r) s k = share r (s, k)
 
 -- d times the goal less the sum is a number k, and k is at least -(d - 1)
 pub record Closes (facts : List LinearForm) (tops : List ℕ) (goal : LinearForm) (cert : Cert) : Type 0 where

@@ -1,6 +1,6 @@
 //! Whether a certificate closes a goal. For each symbol of the goal and of the forms that the entries name, its
 //! coefficients are summed, which takes no memory; all sums have room in 128 bits.
-ghost use Rattle.std.specs.Prelude.{◌≡◌, ◌≤◌, ◌*◌, ◌*ℤ◌, ◌^◌, ◌↔◌, true, length, option_map, slice_get, Some, pos, ℤ};
+ghost use Rattle.std.specs.Prelude.{◌≡◌, ◌≤◌, ◌*◌, ◌*ℤ◌, ◌^◌, ◌↔◌, true, length, option_map, is_some, slice_get, Some, IfSome, pos, ℤ};
 ghost use Rattle.side_certs.specs.LinearForm as linear;
 ghost use Rattle.side_certs.specs.Closes as certificate;
 
@@ -47,57 +47,89 @@ fn in_range(cert: &Cert) -> bool
     1 <= cert.d && cert.d <= GREATEST_MULTIPLIER && cert.entries.len() <= MOST_ENTRIES
 }
 
-/// The form that the entry names.
-fn named(facts: &[Form], tops: &[u32], entry: Entry) -> Option<Form>
-    ensures { result ≡ certificate.named facts.now tops.now entry }
+/// The entry names a form: its multiplier is in range, and its fact is there, or its symbol.
+fn is_named(facts: &[Form], tops: &[u32], entry: Entry) -> bool
+    ensures { result ≡ is_some (certificate.named facts.now tops.now entry) }
 {
-    if entry.mult <= GREATEST_MULTIPLIER {
-        form_of(facts, tops, entry.kind, entry.number)
-    } else {
-        None
-    }
+    entry.mult <= GREATEST_MULTIPLIER && is_there(facts, tops, entry.kind, entry.number)
 }
 
-fn form_of(facts: &[Form], tops: &[u32], kind: u8, number: u32) -> Option<Form>
-    ensures { result ≡ certificate.form_of facts.now tops.now kind number }
+fn is_there(facts: &[Form], tops: &[u32], kind: u8, number: u32) -> bool
+    ensures { result ≡ is_some (certificate.form_of facts.now tops.now kind number) }
 {
     if kind == 0 {
-        fact(facts, number)
+        (number as usize) < facts.len()
+    } else if kind == 1 || kind == 2 {
+        (number as usize) < tops.len()
+    } else {
+        false
+    }
+}
+
+/// The constant, or the coefficient of a symbol, in the form of a kind and a number.
+fn number_of(
+    facts: &[Form],
+    tops: &[u32],
+    kind: u8,
+    number: u32,
+    place: Option<u32>,
+) -> Option<i128>
+    ensures number { result ≡ option_map (certificate.number_at place) (certificate.form_of facts.now tops.now kind number) }
+    ensures near { IfSome result (λ n. certificate.Near (2 ^ 40) n) }
+{
+    if kind == 0 {
+        number_of_fact(facts, number, place)
     } else if kind == 1 {
-        symbol(tops, number)
+        number_of_symbol(tops, number, place)
     } else if kind == 2 {
-        below_top(tops, number)
+        number_below_top(tops, number, place)
     } else {
         None
     }
 }
 
-fn fact(facts: &[Form], number: u32) -> Option<Form>
-    ensures { result ≡ slice_get facts.now number }
+fn number_of_fact(facts: &[Form], number: u32, place: Option<u32>) -> Option<i128>
+    ensures number { result ≡ option_map (certificate.number_at place) (slice_get facts.now number) }
+    ensures near { IfSome result (λ n. certificate.Near (2 ^ 40) n) }
 {
     match facts.get(number as usize) {
         None => None,
-        Some(fact) => Some(fact.copy()),
+        Some(fact) => Some(fact.number_at(place)),
     }
 }
 
-/// The symbol, where it has a top.
-fn symbol(tops: &[u32], s: u32) -> Option<Form>
-    ensures { result ≡ option_map (λ top. linear.symbol s) (slice_get tops.now s) }
+/// Of the symbol, where it has a top.
+fn number_of_symbol(tops: &[u32], s: u32, place: Option<u32>) -> Option<i128>
+    ensures number { result ≡ option_map (λ top. certificate.number_at place (linear.symbol s)) (slice_get tops.now s) }
+    ensures near { IfSome result (λ n. certificate.Near (2 ^ 40) n) }
 {
     match tops.get(s as usize) {
         None => None,
-        Some(_) => Some(Form::symbol(s)),
+        Some(_) => Some(i128::from(share(s, 1, place))),
     }
 }
 
-/// The symbol's top less the symbol.
-fn below_top(tops: &[u32], s: u32) -> Option<Form>
-    ensures { result ≡ option_map (λ top. linear.below top s) (slice_get tops.now s) }
+/// Of the symbol's top less the symbol.
+fn number_below_top(tops: &[u32], s: u32, place: Option<u32>) -> Option<i128>
+    ensures number { result ≡ option_map (λ top. certificate.number_at place (linear.below top s)) (slice_get tops.now s) }
+    ensures near { IfSome result (λ n. certificate.Near (2 ^ 40) n) }
 {
     match tops.get(s as usize) {
         None => None,
-        Some(top) => Some(Form::below(*top, s)),
+        Some(top) => Some(match place {
+            None => i128::from(*top),
+            Some(_) => i128::from(share(s, -1, place)),
+        }),
+    }
+}
+
+/// The coefficient, where the place is this symbol.
+fn share(s: u32, coefficient: i64, place: Option<u32>) -> i64
+    ensures { result ≡ certificate.share_at place s coefficient }
+{
+    match place {
+        None => 0,
+        Some(r) => if s == r { coefficient } else { 0 },
     }
 }
 
@@ -106,7 +138,7 @@ fn all_named(facts: &[Form], tops: &[u32], entries: &[Entry]) -> bool
 {
     let mut left = entries;
     'entries: while let [entry, rest @ ..] = left {
-        if named(facts, tops, *entry).is_none() {
+        if !is_named(facts, tops, *entry) {
             return false;
         }
         left = rest;
@@ -136,14 +168,33 @@ fn cancels_all(facts: &[Form], tops: &[u32], goal: &Form, cert: &Cert) -> bool
 {
     let mut after = cert.entries.as_slice();
     'entries: while let [entry, rest @ ..] = after {
-        if let Some(form) = named(facts, tops, *entry) {
-            if !cancels(facts, tops, goal, cert, form.all_terms()) {
-                return false;
-            }
+        if !cancels_in(facts, tops, goal, cert, *entry) {
+            return false;
         }
         after = rest;
     }
     true
+}
+
+/// Of each symbol of the form that the entry names, if it names one, nothing is left.
+fn cancels_in(facts: &[Form], tops: &[u32], goal: &Form, cert: &Cert, entry: Entry) -> bool
+    requires { certificate.in_range cert.now ≡ true }
+    ensures { result ≡ certificate.cancels_in (certificate.rest_of facts.now tops.now goal.now cert.now) (certificate.named facts.now tops.now entry) }
+{
+    if !is_named(facts, tops, entry) {
+        return true;
+    }
+    if entry.kind == 0 {
+        cancels(
+            facts,
+            tops,
+            goal,
+            cert,
+            facts[entry.number as usize].all_terms(),
+        )
+    } else {
+        left(facts, tops, goal, cert, Some(entry.number)) == 0
+    }
 }
 
 /// What `d` times the goal less the entries' forms leaves of the constant, or of a symbol.
@@ -176,9 +227,9 @@ fn multiple(facts: &[Form], tops: &[u32], entry: Entry, place: Option<u32>) -> i
     if entry.mult > GREATEST_MULTIPLIER {
         return 0;
     }
-    match named(facts, tops, entry) {
+    match number_of(facts, tops, entry.kind, entry.number, place) {
         None => 0,
-        Some(form) => times(entry.mult, form.number_at(place)),
+        Some(number) => times(entry.mult, number),
     }
 }
 

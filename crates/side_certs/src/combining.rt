@@ -102,7 +102,8 @@ fn parts_at(parts: &[Part<'_>], place: Option<u32>) -> i128
 {
     match parts {
         [] => 0,
-        [part, rest @ ..] => product(part.times, part.form.number_at(place)) + parts_at(rest, place),
+        [part, rest @ ..] => product(part.times, part.form.number_at(place))
+            + parts_at(rest, place),
     }
 }
 
@@ -121,7 +122,10 @@ fn symbol_of_parts(constant: i64, parts: &[Part<'_>], least: u64) -> Option<u32>
 {
     match parts {
         [] => None,
-        [part, rest @ ..] => lesser(part.form.symbol_from(least), symbol_of_parts(constant, rest, least)),
+        [part, rest @ ..] => lesser(
+            part.form.symbol_from(least),
+            symbol_of_parts(constant, rest, least),
+        ),
     }
 }
 

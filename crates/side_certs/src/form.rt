@@ -166,7 +166,7 @@ impl Form {
         }
     }
 
-    /// The first symbol from `least` on.
+    /// The first symbol from `least` on, if there is one.
     pub fn symbol_from(&self, least: u64) -> Option<u32>
         ensures next { IsNext self.now least result }
         ensures rising { linear.rises_from 0 self.now.terms ≡ true }

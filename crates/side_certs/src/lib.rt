@@ -11,7 +11,7 @@ pub mod laws;
 
 pub use certificate::{Cert, Entry};
 pub use closing::closes;
-pub use combining::{judged, lesser, Combination, Part};
+pub use combining::{Combination, Part, judged, lesser};
 pub use form::Form;
 pub use laws::closing_gives_goal;
 

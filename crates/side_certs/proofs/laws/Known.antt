@@ -1,5 +1,5 @@
 -- Which symbols a form has: a goal that a certificate closes has only symbols with a top.
-use Rattle.std.proofs.Common.{◌≡◌, ℕ, ◌+◌, ◌-◌, ◌<◌, ◌≤◌, ◌&&◌, Bool, true, false, List, [], ◌∷◌, length, Option, Some, None, ℤ, pos, negsuc, neg_ℤ, ◌+ℤ◌, ◌*ℤ◌, ◌≤ℤ◌, nat_eq, nat_le, refl, ap, ◌∙◌, arith}
+use Rattle.std.proofs.Common.{◌≡◌, ℕ, ◌+◌, ◌<◌, ◌≤◌, ◌&&◌, Bool, true, false, List, [], ◌∷◌, length, Option, Some, None, ℤ, pos, negsuc, neg_ℤ, ◌+ℤ◌, ◌*ℤ◌, ◌≤ℤ◌, nat_eq, nat_le, refl, ap, ◌∙◌, arith}
 use Rattle.std.specs.Prelude.{slice_get, option_map}
 use Rattle.std.proofs.lemmas.Bool.{leb-true}
 use Rattle.std.proofs.lemmas.Bool.Decides.{nat_tests}
@@ -8,8 +8,8 @@ use Rattle.std.proofs.lemmas.Option.{slice_get_within}
 use Rattle.std.specs.Ordering.{int_eq}
 use Rattle.side_certs.specs.declared.certificate.Cert.{Cert}
 use Rattle.side_certs.specs.declared.certificate.Entry.{Entry}
-use Rattle.side_certs.specs.LinearForm.{LinearForm, symbol, below, rises_from, share, coefficient}
-use Rattle.side_certs.specs.Closes.{greatest_multiplier, most_entries, form_of, named, in_range, multiple, summed, left, number_at, closes}
+use Rattle.side_certs.specs.LinearForm.{LinearForm, symbol, below, rises_from, coefficient}
+use Rattle.side_certs.specs.Closes.{greatest_multiplier, most_entries, form_of, named, multiple, summed, left, number_at, closes}
 use Rattle.side_certs.proofs.Cancelling.{closes_parts}
 use Rattle.side_certs.proofs.laws.Coefficients.{Below}
 use Rattle.side_certs.proofs.laws.Limits.{and_parts, rises_parts, coefficient_before}
@@ -97,9 +97,9 @@ nothing_of d z some none =
     let least : pos 0 ≤ℤ z = not_below d z some (omega (arith, ints, none)) in
     let other : pos d *ℤ neg_ℤ z ≡ pos 0 =
     (let split = times_sum (pos d) z (neg_ℤ z) in
-      let sum : z +ℤ neg_ℤ z ≡ pos 0 = omega (arith, ints) in
-      let all : pos d *ℤ (z +ℤ neg_ℤ z) ≡ pos 0 = ap (λ (y : ℤ). pos d *ℤ y) sum ∙ times_nothing (pos d) in
-      omega (arith, ints, split, all, none)) in
+    let sum : z +ℤ neg_ℤ z ≡ pos 0 = omega (arith, ints) in
+    let all : pos d *ℤ (z +ℤ neg_ℤ z) ≡ pos 0 = ap (λ (y : ℤ). pos d *ℤ y) sum ∙ times_nothing (pos d) in
+    omega (arith, ints, split, all, none)) in
     let most : pos 0 ≤ℤ neg_ℤ z = not_below d (neg_ℤ z) some (omega (arith, ints, other)) in
     omega (arith, ints, least, most)
 

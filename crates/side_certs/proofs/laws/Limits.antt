@@ -100,7 +100,6 @@ coefficient_before s least (t ∷ ts) before rise =
     let rest : coefficient s ts ≡ pos 0 = coefficient_before s (t.0 + 1) ts (omega (arith, p.0)) p.2 in
     rw (other, rest) refl
 
-
 -- a coefficient of small terms whose symbols rise is small
 pub small_coefficient : (s least : ℕ) (ts : List (ℕ × ℤ)) → rises_from least ts ≡ true → all_small ts ≡ true → is_small (coefficient s ts) ≡ true
 small_coefficient s least [] rise all = refl

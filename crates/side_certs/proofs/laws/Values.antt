@@ -1,10 +1,9 @@
 -- Values of constants, symbols, sums, multiples and differences of forms.
-use Rattle.std.proofs.Common.{◌≡◌, refl, sym, ◌∙◌, ap, arith, ℕ, ◌+◌, ◌*◌, ◌<◌, Bool, true, false, List, [], ◌∷◌, ℤ, pos, negsuc, neg_ℤ, ◌+ℤ◌, ◌*ℤ◌, nat_eq, nat_lt}
+use Rattle.std.proofs.Common.{◌≡◌, refl, sym, ◌∙◌, ap, arith, ℕ, ◌<◌, Bool, true, false, List, [], ◌∷◌, ℤ, pos, negsuc, neg_ℤ, ◌+ℤ◌, ◌*ℤ◌, nat_eq, nat_lt}
 use Rattle.std.specs.Ordering.{int_eq}
 use Rattle.std.proofs.lemmas.Bool.{eqb-true}
 use Rattle.std.proofs.lemmas.Bool.Decides.{Decides-int_eq}
 use Rattle.std.proofs.lemmas.Int.{ints}
-use borrow.Author.Differences.{up, down, product_is}
 use Rattle.side_certs.specs.LinearForm.{LinearForm, constant, symbol, below, plus, times, minus, keep, keep_all, merge_into, merge, terms_times, terms_at, value_at}
 use Rattle.side_certs.proofs.laws.Products.{sum_times, times_sum, times_times, times_nothing}
 use Rattle.side_certs.proofs.laws.Coefficients.{Below}

@@ -1,4 +1,4 @@
-use Rattle.std.proofs.Common.{◌≡◌, ◌∷◌, List, ap, arith, rules, SFits, to_z}
+use Rattle.std.proofs.Common.{ap, arith, rules, SFits}
 use Rattle.std.specs.Int.{w64, w128}
 use Rattle.std.proofs.lemmas.Int.{ints, to_z-of_z}
 use Rattle.side_certs.specs.Combination as spec

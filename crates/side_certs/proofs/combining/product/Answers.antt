@@ -1,7 +1,6 @@
-use Rattle.std.proofs.Common.{◌≡◌, ◌*ℤ◌, arith, rules, SFits, to_z, of_z}
+use Rattle.std.proofs.Common.{arith, rules, SFits}
 use Rattle.std.specs.Int.{w128}
 use Rattle.std.proofs.lemmas.Int.{ints, to_z-of_z}
-use Rattle.side_certs.specs.Closes.{Near}
 use Rattle.side_certs.proofs.laws.Products.{near_product}
 use Rattle.side_certs.proofs.combining.product.Goals as goal
 

@@ -15,7 +15,7 @@ use Rattle.side_certs.specs.Closes.{greatest_multiplier, form_of, named, all_nam
 use Rattle.side_certs.proofs.laws.Coefficients.{coefficient_minus, coefficient_scaled}
 use Rattle.side_certs.proofs.laws.Limits.{both, and_parts}
 use Rattle.cert_search.specs.Limits.{entry_in_range, Limited}
-use Rattle.cert_search.specs.Search.{most_facts, multiplier, quotient, entry, fact_entry, newest, fitting, symbol_entry, at_most_one, candidates, left, beginning, first_of, by_least, entries, found, levels}
+use Rattle.cert_search.specs.Search.{most_facts, multiplier, quotient, entry, fact_entry, newest, fitting, symbol_entry, at_most_one, candidates, next_goal, beginning, first_of, by_least, entries, found, levels}
 
 -- Each candidate is within its limits.
 
@@ -155,7 +155,7 @@ by_first {P = P} facts tops attempt (e ∷ es) result each all is = by_attempt (
     by_attempt (Some found) p rest q = each e all.0 (p ∙ q)
 
 entry_leads : (facts : List LinearForm) (tops : List ℕ) (n : ℕ) (goal : LinearForm) (next : LinearForm → Option (List Entry)) (e : Entry) (result : List Entry)
-    → ((rest : LinearForm) (es : List Entry) → next rest ≡ Some es → Leads facts tops n rest es) → Fits facts tops e → beginning next (left facts tops goal) e ≡ Some result
+    → ((rest : LinearForm) (es : List Entry) → next rest ≡ Some es → Leads facts tops n rest es) → Fits facts tops e → beginning next (next_goal facts tops goal) e ≡ Some result
     → Leads facts tops (suc n) goal result
 entry_leads facts tops n goal next e result each fits is = by_form (form_of facts tops e.kind e.number) refl is
   where
@@ -189,10 +189,10 @@ leads facts tops zero goal es is = by_terms goal.terms refl is
 leads facts tops (suc n) goal es is = by_terms (leads facts tops n) goal.terms refl is
   where
     by_terms : ((rest : LinearForm) (more : List Entry) → entries facts tops n rest ≡ Some more → Leads facts tops n rest more) → (ts : List (ℕ × ℤ)) → goal.terms ≡ ts
-        → by_least (λ t. first_of (beginning (entries facts tops n) (left facts tops goal)) (candidates facts tops t)) goal.constant ts ≡ Some es → Leads facts tops (suc n) goal es
+        → by_least (λ t. first_of (beginning (entries facts tops n) (next_goal facts tops goal)) (candidates facts tops t)) goal.constant ts ≡ Some es → Leads facts tops (suc n) goal es
     by_terms next [] p q = by_sign facts tops (suc n) goal es p q
     by_terms next (t ∷ ts) p q =
-        by_first facts tops (beginning (entries facts tops n) (left facts tops goal)) (candidates facts tops t) es
+        by_first facts tops (beginning (entries facts tops n) (next_goal facts tops goal)) (candidates facts tops t) es
         (λ e fits gives. entry_leads facts tops n goal (entries facts tops n) e es next fits gives) (candidates_fit facts tops t) q
 
 pub limited : (facts : List LinearForm) (tops : List ℕ) (goal : LinearForm) (es : List Entry) → entries facts tops levels goal ≡ Some es

@@ -3,7 +3,7 @@ use Rattle.std.proofs.Common.{◌≡◌, ℕ, zero, suc, ◌-◌, ◌<◌, List,
 use Rattle.std.specs.Prelude.{slice_get}
 use Rattle.side_certs.specs.declared.certificate.Entry.{Entry}
 use Rattle.side_certs.specs.LinearForm.{LinearForm, coefficient}
-use Rattle.cert_search.specs.Search.{quotient, entry, fact_entry, fitting, first_of, by_least, entries, candidates, beginning, left}
+use Rattle.cert_search.specs.Search.{quotient, entry, fact_entry, fitting, first_of, by_least, entries, candidates, beginning, next_goal}
 
 fact_entry_is : (facts : List LinearForm) (t : ℕ × ℤ) (i : ℕ) (f : LinearForm) → slice_get facts i ≡ Some f → fact_entry facts t i ≡ entry 0 i (quotient t.1 (coefficient t.0 f.terms))
 fact_entry_is facts t i f is = rw is refl
@@ -48,11 +48,11 @@ none_fits attempt (suc m) es more is = rw is refl
 
 -- with a level left, a goal with a symbol gets what the first candidate gives
 pub by_candidates : (facts : List LinearForm) (tops : List ℕ) (n : ℕ) (goal : LinearForm) (t : ℕ × ℤ) → (n ≡ 0 → ⊥) → slice_get goal.terms 0 ≡ Some t
-    → entries facts tops n goal ≡ first_of (beginning (entries facts tops (n - 1)) (left facts tops goal)) (candidates facts tops t)
+    → entries facts tops n goal ≡ first_of (beginning (entries facts tops (n - 1)) (next_goal facts tops goal)) (candidates facts tops t)
 by_candidates facts tops zero goal t some is = absurd (some refl)
 by_candidates facts tops (suc n) goal t some is = let same : suc n - 1 ≡ n = omega arith in rw same (first (goal.terms) is)
   where
-    first : (ts : List (ℕ × ℤ)) → slice_get ts 0 ≡ Some t → by_least (λ u. first_of (beginning (entries facts tops n) (left facts tops goal)) (candidates facts tops u)) goal.constant ts
-        ≡ first_of (beginning (entries facts tops n) (left facts tops goal)) (candidates facts tops t)
+    first : (ts : List (ℕ × ℤ)) → slice_get ts 0 ≡ Some t → by_least (λ u. first_of (beginning (entries facts tops n) (next_goal facts tops goal)) (candidates facts tops u)) goal.constant ts
+        ≡ first_of (beginning (entries facts tops n) (next_goal facts tops goal)) (candidates facts tops t)
     first [] none = absurd (cc)
     first (u ∷ us) one = let u_is : u ≡ t = cc in rw u_is refl

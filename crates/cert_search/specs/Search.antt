@@ -1,9 +1,10 @@
--- The search of certificates: which certificate a goal gets. That there is such an order is for those who ask for one and
--- write none; which one it is, is this project's own choice. A certificate is right by `closes`, however it was found.
+-- The search of certificates: which certificate a goal gets. The order in which entries are tried, and how many of them, are
+-- this project's own choice; a certificate is right because it closes its goal, and not by how it was found.
 --
--- A goal without symbols closes by its sign. In any other goal an entry is chosen that takes the least symbol out of it,
--- and what is left of the goal is searched in turn, to four entries in all.
-use Rattle.std.specs.Prelude.{ℕ, zero, suc, not, ◌&&◌, ◌||◌, List, [], ◌∷◌, ◌++◌, length, take, slice_get, Option, Some, None, option_map, ℤ, pos, neg_ℤ, nat_abs, if◌then◌else◌}
+-- A goal without symbols is judged by its sign. For any other goal an entry is chosen that takes the least symbol out of it,
+-- and what it leaves of the goal is searched in turn, to four entries in all.
+use Rattle.std.specs.Prelude.{ℕ, zero, suc, not, ◌&&◌, ◌||◌, List, [], ◌∷◌, ◌++◌, length, take, slice_get}
+use Rattle.std.specs.Prelude.{Option, Some, None, option_map, ℤ, pos, neg_ℤ, nat_abs, if◌then◌else◌}
 use Rattle.std.specs.Option.{option_and_then, option_or}
 use Rattle.std.specs.List.{filter_map}
 use Rattle.std.specs.Int.Signed.{le_z}
@@ -46,9 +47,10 @@ newest (suc n) = n ∷ newest n
 abbrev pub fitting : List LinearForm → ℕ × ℤ → ℕ → List Entry
 fitting facts t n = filter_map (fact_entry facts t) (newest n)
 
--- the entry of the term's symbol that takes the term out of a goal: of the symbol itself, or else of its top less the symbol
+-- the same of the term's symbol, where it has a top: of the symbol itself, or else of its top less the symbol
 abbrev pub symbol_entry : List ℕ → ℕ × ℤ → Option Entry
-symbol_entry tops t = option_and_then (λ top. option_or (entry 1 t.0 (multiplier t.1)) (entry 2 t.0 (multiplier (neg_ℤ t.1)))) (slice_get tops t.0)
+symbol_entry tops t =
+    option_and_then (λ top. option_or (entry 1 t.0 (multiplier t.1)) (entry 2 t.0 (multiplier (neg_ℤ t.1)))) (slice_get tops t.0)
 
 abbrev pub at_most_one : Option Entry → List Entry
 at_most_one None = []
@@ -58,9 +60,9 @@ at_most_one (Some e) = e ∷ []
 abbrev pub candidates : List LinearForm → List ℕ → ℕ × ℤ → List Entry
 candidates facts tops t = take most_facts (fitting facts t (length facts)) ++ at_most_one (symbol_entry tops t)
 
--- the goal less the entry's form, times its multiplier: none where that passes a limit of forms
-abbrev pub left : List LinearForm → List ℕ → LinearForm → Entry → Option LinearForm
-left facts tops goal e = option_and_then (λ f. within (minus goal (times (pos e.mult) f))) (form_of facts tops e.kind e.number)
+-- what the entry leaves of the goal: the goal less the entry's form, times its multiplier, if that passes no limit of forms
+abbrev pub next_goal : List LinearForm → List ℕ → LinearForm → Entry → Option LinearForm
+next_goal facts tops goal e = option_and_then (λ f. within (minus goal (times (pos e.mult) f))) (form_of facts tops e.kind e.number)
 
 -- the entry, and then those by which what it leaves of the goal closes
 abbrev pub beginning : (LinearForm → Option (List Entry)) → (Entry → Option LinearForm) → Entry → Option (List Entry)
@@ -80,7 +82,10 @@ by_least next constant (t ∷ ts) = next t
 abbrev pub entries : List LinearForm → List ℕ → ℕ → LinearForm → Option (List Entry)
 entries facts tops zero goal = by_least (λ t. None) goal.constant goal.terms
 entries facts tops (suc n) goal =
-    by_least (λ t. first_of (beginning (entries facts tops n) (left facts tops goal)) (candidates facts tops t)) goal.constant goal.terms
+    by_least
+    (λ t. first_of (beginning (entries facts tops n) (next_goal facts tops goal)) (candidates facts tops t))
+    goal.constant
+    goal.terms
 
 -- the certificate that a goal gets
 abbrev pub found : List LinearForm → List ℕ → LinearForm → Option Cert

@@ -100,9 +100,9 @@ fn top_entry(symbol: u32, coefficient: i64) -> Option<Entry>
     }
 }
 
-/// The goal less the entry's form, times its multiplier. None where that passes a limit.
-pub(crate) fn left(facts: &[Form], tops: &[u32], goal: &Form, entry: Entry) -> Option<Form>
-    ensures { result ≡ spec.left facts.now tops.now goal.now entry }
+/// What the entry leaves of the goal: the goal less the entry's form, times its multiplier. None where that passes a limit.
+pub(crate) fn next_goal(facts: &[Form], tops: &[u32], goal: &Form, entry: Entry) -> Option<Form>
+    ensures { result ≡ spec.next_goal facts.now tops.now goal.now entry }
 {
     if entry.kind == 0 {
         match facts.get(entry.number as usize) {

@@ -5,7 +5,7 @@ ghost use Rattle.side_certs.specs.Closes.{Closes};
 ghost use Rattle.cert_search.specs.Limits.{Limited};
 ghost use Rattle.cert_search.specs.Search as spec;
 
-use crate::candidates::{left, newest_fact, symbol_entry};
+use crate::candidates::{newest_fact, next_goal, symbol_entry};
 use rup_base::{List, NoMemory};
 use side_certs::{Cert, Entry, Form};
 use std::alloc::Global;
@@ -78,7 +78,7 @@ fn first_candidate(
 ) -> Result<Option<List<Entry>>, NoMemory>
     requires { length facts.now < 2 ^ 32 }
     ensures { IfOk result (λ entries. entries ≡ spec.first_of
-        (spec.beginning (spec.entries facts.now tops.now levels) (spec.left facts.now tops.now goal.now))
+        (spec.beginning (spec.entries facts.now tops.now levels) (spec.next_goal facts.now tops.now goal.now))
         (spec.candidates facts.now tops.now term)) }
 {
     let mut older = facts.len();
@@ -112,9 +112,12 @@ fn beginning(
     entry: Entry,
 ) -> Result<Option<List<Entry>>, NoMemory>
     requires { length facts.now < 2 ^ 32 }
-    ensures { IfOk result (λ entries. entries ≡ spec.beginning (spec.entries facts.now tops.now levels) (spec.left facts.now tops.now goal.now) entry) }
+    ensures { IfOk result (λ entries. entries ≡ spec.beginning
+        (spec.entries facts.now tops.now levels)
+        (spec.next_goal facts.now tops.now goal.now)
+        entry) }
 {
-    match left(facts, tops, goal, entry) {
+    match next_goal(facts, tops, goal, entry) {
         None => Ok(None),
         Some(rest) => match entries(alloc, facts, tops, levels, &rest)? {
             None => Ok(None),

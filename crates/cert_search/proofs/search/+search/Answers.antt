@@ -11,7 +11,7 @@ entries-returns t c =
 
 pub first_candidate-returns-in-Some-2 : goal.first_candidate-returns-in-Some-2
 first_candidate-returns-in-Some-2 t c =
-    let attempt = spec.beginning (spec.entries c.args.facts.now c.args.tops.now c.args.levels) (spec.left c.args.facts.now c.args.tops.now c.args.goal.now) in
+    let attempt = spec.beginning (spec.entries c.args.facts.now c.args.tops.now c.args.levels) (spec.next_goal c.args.facts.now c.args.tops.now c.args.goal.now) in
     let e = c.in-Some.entry in
     let older = spec.fitting c.args.facts.now c.args.term e.number in
     let more = spec.at_most_one (spec.symbol_entry c.args.tops.now c.args.term) in
@@ -21,7 +21,7 @@ first_candidate-returns-in-Some-2 t c =
 
 pub first_candidate-facts-preserved : goal.first_candidate-facts-preserved
 first_candidate-facts-preserved t c =
-    let attempt = spec.beginning (spec.entries c.args.facts.now c.args.tops.now c.args.levels) (spec.left c.args.facts.now c.args.tops.now c.args.goal.now) in
+    let attempt = spec.beginning (spec.entries c.args.facts.now c.args.tops.now c.args.levels) (spec.next_goal c.args.facts.now c.args.tops.now c.args.goal.now) in
     let e = c.in-Some.entry in
     let older = spec.fitting c.args.facts.now c.args.term e.number in
     let more = spec.at_most_one (spec.symbol_entry c.args.tops.now c.args.term) in
@@ -36,7 +36,7 @@ first_candidate-facts-preserved t c =
 
 pub first_candidate-returns-in-None-symbol_entry : goal.first_candidate-returns-in-None-symbol_entry
 first_candidate-returns-in-None-symbol_entry t c =
-    let attempt = spec.beginning (spec.entries c.args.facts.now c.args.tops.now c.args.levels) (spec.left c.args.facts.now c.args.tops.now c.args.goal.now) in
+    let attempt = spec.beginning (spec.entries c.args.facts.now c.args.tops.now c.args.levels) (spec.next_goal c.args.facts.now c.args.tops.now c.args.goal.now) in
     let older = spec.fitting c.args.facts.now c.args.term c.facts.older in
     let symbol : None ≡ spec.symbol_entry c.args.tops.now c.args.term = c.in-None-symbol_entry.ensures in
     let nothing : None ≡ spec.first_of attempt (spec.at_most_one (spec.symbol_entry c.args.tops.now c.args.term)) = rw (← symbol) refl in

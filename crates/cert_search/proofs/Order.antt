@@ -3,7 +3,7 @@ use Rattle.std.proofs.Common.{◌≡◌, ℕ, zero, suc, ◌-◌, ◌<◌, List,
 use Rattle.std.specs.Prelude.{slice_get}
 use Rattle.side_certs.specs.declared.certificate.Entry.{Entry}
 use Rattle.side_certs.specs.LinearForm.{LinearForm, coefficient}
-use Rattle.cert_search.specs.Search.{quotient, entry, fact_entry, fitting, first_of, by_least, entries, candidates, beginning, next_goal}
+use Rattle.cert_search.specs.Search.{quotient, entry, fact_entry, fitting, at_most_one, first_of, by_least, entries, candidates, beginning, next_goal}
 
 fact_entry_is : (facts : List LinearForm) (t : ℕ × ℤ) (i : ℕ) (f : LinearForm) → slice_get facts i ≡ Some f → fact_entry facts t i ≡ entry 0 i (quotient t.1 (coefficient t.0 f.terms))
 fact_entry_is facts t i f is = rw is refl
@@ -26,25 +26,27 @@ fits_not facts t (suc n) f some is mult =
     let at_n : slice_get facts n ≡ Some f = rw same at is in
     rw (same, fact_entry_is facts t n f at_n, mult) refl
 
--- the first of the candidates gives something
-pub first_gives : (attempt : Entry → Option (List Entry)) (m : ℕ) (e : Entry) (es more : List Entry) (found : List Entry) → 0 < m → attempt e ≡ Some found
-    → first_of attempt (take m (e ∷ es) ++ more) ≡ Some found
-first_gives attempt zero e es more found some is = absurd (omega arith)
-first_gives attempt (suc m) e es more found some is = rw is refl
+-- the newest fact that fits gives something
+pub first_gives : (attempt : Entry → Option (List Entry)) (m : ℕ) (fit older more : List Entry) (e : Entry) (found : List Entry)
+    → 0 < m → fit ≡ e ∷ older → attempt e ≡ Some found → Some found ≡ first_of attempt (take m fit ++ more)
+first_gives attempt zero fit older more e found some newest_is is = absurd (omega arith)
+first_gives attempt (suc m) fit older more e found some newest_is is = rw (newest_is, is) refl
 
--- the first of the candidates gives nothing
-pub first_fails : (attempt : Entry → Option (List Entry)) (m : ℕ) (e : Entry) (es more : List Entry) → 0 < m → attempt e ≡ None
-    → first_of attempt (take (m - 1) es ++ more) ≡ first_of attempt (take m (e ∷ es) ++ more)
-first_fails attempt zero e es more some is = absurd (omega arith)
-first_fails attempt (suc m) e es more some is = let same : suc m - 1 ≡ m = omega arith in rw (same, is) refl
+-- the newest fact that fits gives nothing
+pub first_fails : (attempt : Entry → Option (List Entry)) (m : ℕ) (fit older more : List Entry) (e : Entry)
+    → 0 < m → fit ≡ e ∷ older → attempt e ≡ None → first_of attempt (take (m - 1) older ++ more) ≡ first_of attempt (take m fit ++ more)
+first_fails attempt zero fit older more e some newest_is is = absurd (omega arith)
+first_fails attempt (suc m) fit older more e some newest_is is = let same : suc m - 1 ≡ m = omega arith in rw (same, newest_is, is) refl
 
--- no fact is left to try
-pub none_left : (attempt : Entry → Option (List Entry)) (m : ℕ) (es more : List Entry) → m ≡ 0 → first_of attempt (take m es ++ more) ≡ first_of attempt more
-none_left attempt m es more is = rw is refl
+-- no more facts are tried, or none fits, and the symbol has no entry
+pub none_tried : (attempt : Entry → Option (List Entry)) (m : ℕ) (fit : List Entry) (o : Option Entry)
+    → m ≡ 0 → None ≡ o → None ≡ first_of attempt (take m fit ++ at_most_one o)
+none_tried attempt m fit o is none = rw (is, ← none) refl
 
-pub none_fits : (attempt : Entry → Option (List Entry)) (m : ℕ) (es more : List Entry) → es ≡ [] → first_of attempt (take m es ++ more) ≡ first_of attempt more
-none_fits attempt zero es more is = refl
-none_fits attempt (suc m) es more is = rw is refl
+pub none_fits : (attempt : Entry → Option (List Entry)) (m : ℕ) (fit : List Entry) (o : Option Entry)
+    → fit ≡ [] → None ≡ o → None ≡ first_of attempt (take m fit ++ at_most_one o)
+none_fits attempt zero fit o is none = rw (← none) refl
+none_fits attempt (suc m) fit o is none = rw (is, ← none) refl
 
 -- with a level left, a goal with a symbol gets what the first candidate gives
 pub by_candidates : (facts : List LinearForm) (tops : List ℕ) (n : ℕ) (goal : LinearForm) (t : ℕ × ℤ) → (n ≡ 0 → ⊥) → slice_get goal.terms 0 ≡ Some t

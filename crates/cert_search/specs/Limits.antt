@@ -1,0 +1,20 @@
+-- What a certificate of the search keeps.
+use Rattle.std.specs.Prelude.{◌≡◌, ℕ, ◌≤◌, Bool, true, ◌&&◌, List, length, nat_le, nat_lt, nat_eq, if◌then◌else◌}
+use Rattle.std.specs.List.{list_all}
+use Rattle.side_certs.specs.declared.certificate.Cert.{Cert}
+use Rattle.side_certs.specs.declared.certificate.Entry.{Entry}
+use Rattle.side_certs.specs.LinearForm.{LinearForm}
+use Rattle.side_certs.specs.Closes.{greatest_multiplier}
+use Rattle.cert_search.specs.Search.{levels}
+
+-- a multiplier from 1 to the greatest, of a fact that is there or of a symbol that has a top
+abbrev pub entry_in_range : List LinearForm → List ℕ → Entry → Bool
+entry_in_range facts tops e =
+    (nat_le 1 e.mult && nat_le e.mult greatest_multiplier)
+    && (if nat_eq e.kind 0 then nat_lt e.number (length facts) else (nat_le e.kind 2 && nat_lt e.number (length tops)))
+
+-- the goal is taken once, and few entries are
+pub record Limited (facts : List LinearForm) (tops : List ℕ) (certificate : Cert) : Type 0 where
+  pub once : certificate.d ≡ 1
+  pub few : length certificate.entries ≤ levels
+  pub ranges : list_all (entry_in_range facts tops) certificate.entries ≡ true

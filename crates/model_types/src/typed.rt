@@ -1,20 +1,22 @@
 //! Models that are known to be well typed.
-ghost use Rattle.std.specs.Prelude.{◌≡◌, map, IfOk};
+ghost use Rattle.std.specs.Prelude.{◌≡◌, ◌≤◌, true, length, map, IfOk};
+ghost use Rattle.model_syntax.specs.Formed.{model_formed};
 ghost use Rattle.model_syntax.specs.Limits.{Within};
 ghost use Rattle.model_syntax.specs.Spelling.{Spellable};
 ghost use Rattle.model_syntax.specs.Types.{Well, kind_of};
 
-use model_syntax::{Len, Model, Param};
+use model_syntax::Model;
 use rup_base::{Kind, List, NoMemory};
 use std::alloc::Global;
 
-/// A model that is well typed, within the limits and spellable.
+/// A model that is well typed, within the limits, spellable and formed.
 #[derive(Debug, Drop)]
 pub struct Typed {
     pub inner: Model,
     ghost well: { Well inner },
     ghost within: { Within inner },
     ghost spellable: { Spellable inner },
+    ghost formed: { model_formed inner ≡ true },
 }
 
 impl Typed {
@@ -23,31 +25,20 @@ impl Typed {
         ensures well { Well result.now }
         ensures within { Within result.now }
         ensures spellable { Spellable result.now }
+        ensures formed { model_formed result.now ≡ true }
     {
         &self.inner
     }
 
-    /// The kinds of the parameters, in order.
+    /// The kinds of the parameters, in order. There are at most eight.
     pub fn kinds(&self, alloc: Global) -> Result<List<Kind>, NoMemory>
-        ensures { IfOk result (λ kinds. kinds ≡ map kind_of self.now.inner.params) }
+        ensures kinds { IfOk result (λ kinds. kinds ≡ map kind_of self.now.inner.params) }
+        ensures few { IfOk result (λ kinds. length kinds ≤ 8) }
     {
         let mut kinds = List::new(alloc);
         for param in self.inner.params.as_slice() {
-            kinds.push(kind_of(param))?;
+            kinds.push(param.kind())?;
         }
         Ok(kinds)
-    }
-}
-
-fn kind_of(param: &Param) -> Kind
-    ensures { result ≡ kind_of param.now }
-{
-    match param {
-        Param::Word(_) => Kind::Word,
-        Param::Byte(_) => Kind::Byte,
-        Param::Bytes(_, Len::Fixed(n)) => Kind::Bytes(Some(*n)),
-        Param::Bytes(_, Len::Named(_)) => Kind::Bytes(None),
-        Param::Words(_, Len::Fixed(n)) => Kind::Words(Some(*n)),
-        Param::Words(_, Len::Named(_)) => Kind::Words(None),
     }
 }

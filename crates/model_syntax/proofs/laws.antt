@@ -1,0 +1,6 @@
+pub mod Answered
+pub mod Arrays
+pub mod Bindings
+pub mod Expressions
+pub mod Numbers
+pub mod Parameters

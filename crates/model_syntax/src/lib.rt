@@ -3,6 +3,7 @@
 
 mod copy;
 mod expr;
+mod kinds;
 mod limits;
 mod names;
 mod program;
@@ -11,6 +12,7 @@ mod stmt;
 
 pub use copy::copy_expr;
 pub use expr::{Cmp, Expr, Op, Scalar};
+pub use kinds::is_of_kind;
 pub use limits::{block_depth, expression_depth, over_limit, statements, table_bytes};
 pub use names::{first_names, is_declared};
 pub use program::{Len, Model, Param, Ret};

@@ -4,7 +4,7 @@ ghost use Rattle.model_syntax.specs.Limits.{Within};
 ghost use Rattle.model_syntax.specs.Spelling.{Spellable};
 ghost use Rattle.model_syntax.specs.Types.{Well, kind_of};
 
-use model_syntax::{Len, Model, Param};
+use model_syntax::Model;
 use rup_base::{Kind, List, NoMemory};
 use std::alloc::Global;
 
@@ -33,21 +33,8 @@ impl Typed {
     {
         let mut kinds = List::new(alloc);
         for param in self.inner.params.as_slice() {
-            kinds.push(kind_of(param))?;
+            kinds.push(param.kind())?;
         }
         Ok(kinds)
-    }
-}
-
-fn kind_of(param: &Param) -> Kind
-    ensures { result ≡ kind_of param.now }
-{
-    match param {
-        Param::Word(_) => Kind::Word,
-        Param::Byte(_) => Kind::Byte,
-        Param::Bytes(_, Len::Fixed(n)) => Kind::Bytes(Some(*n)),
-        Param::Bytes(_, Len::Named(_)) => Kind::Bytes(None),
-        Param::Words(_, Len::Fixed(n)) => Kind::Words(Some(*n)),
-        Param::Words(_, Len::Named(_)) => Kind::Words(None),
     }
 }

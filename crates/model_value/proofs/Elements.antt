@@ -1,5 +1,5 @@
 -- The environment that goes from element to element: only what is put for each element differs.
-use Rattle.std.proofs.Common.{◌≡◌, refl, sym, ◌∙◌, ap, ℕ}
+use Rattle.std.proofs.Common.{◌≡◌, ◌∙◌, ap, ℕ}
 use Rattle.rup_base.specs.declared.arg.Arg.{Arg}
 use Rattle.rup_base.specs.declared.arg.Arg.TheVariants.{Word}
 use Rattle.model_syntax.specs.declared.expr.Expr.{Expr}

@@ -1,10 +1,8 @@
 -- The sides of a well typed model's requirements keep the limits of linear forms.
-use Rattle.std.proofs.Common.{◌≡◌, refl, sym, ◌∙◌, ap, arith, ℕ, ◌+◌, ◌*◌, ◌^◌, ◌≤◌, nat_le, nat_eq, nat_lt, Bool, true, false, List, [], ◌∷◌, length, Result, Ok, Err, is_ok, IsTrue, if◌then◌else◌}
-use Rattle.rup_base.specs.declared.refusal.Refusal.{Refusal}
+use Rattle.std.proofs.Common.{◌≡◌, refl, ℕ, nat_lt, Bool, true, false, List, [], ◌∷◌, Result, Ok, Err, is_ok, IsTrue, if◌then◌else◌}
 use Rattle.rup_base.specs.declared.refusal.TypePlace.{TypePlace}
 use Rattle.rup_base.specs.declared.refusal.TypeWhy.{TypeWhy}
 use Rattle.rup_base.specs.declared.refusal.TypeWhy.TheVariants as why
-use Rattle.model_syntax.specs.declared.stmt.Lin.{Lin}
 use Rattle.model_syntax.specs.declared.stmt.Le.{Le}
 use Rattle.model_syntax.specs.declared.program.Model.{Model}
 use Rattle.model_syntax.specs.Answer.{◌>>=◌}

@@ -1,5 +1,5 @@
 -- The values of the sides of requirements are less than 2^77, since their linear forms keep the limits.
-use Rattle.std.proofs.Common.{◌≡◌, refl, sym, ◌∙◌, ap, subst, arith, ℕ, ◌+◌, ◌*◌, ◌^◌, ◌≤◌, ◌<◌, suc, nat_le, nat_eq, Bool, true, false, List, [], ◌∷◌, length, Result, Ok, Err, is_ok, IsTrue, if◌then◌else◌}
+use Rattle.std.proofs.Common.{◌≡◌, refl, sym, ◌∙◌, ap, arith, ℕ, ◌+◌, ◌*◌, ◌^◌, ◌≤◌, ◌<◌, suc, nat_le, nat_eq, Bool, true, false, List, [], ◌∷◌, length, Result, Ok, Err, is_ok, IsTrue, if◌then◌else◌}
 use Rattle.std.proofs.Math.Nat.{mul-add, mul-le-mul_left, mul_assoc}
 use Rattle.rup_base.specs.declared.refusal.TypeWhy.{TypeWhy}
 use Rattle.rup_base.specs.declared.refusal.TypeWhy.TheVariants.{WideForm}
@@ -9,7 +9,7 @@ use Rattle.model_syntax.specs.Answer.{◌>>=◌}
 use Rattle.model_syntax.specs.declared.stmt.Lin.{Lin, fold-roll-Lin}
 use Rattle.model_syntax.specs.declared.stmt.Lin.TheVariants.{Sum, Scale, rolls-Sum, rolls-Scale}
 use Rattle.model_syntax.specs.declared.stmt.Lin.TheOpen as l
-use Rattle.model_syntax.specs.Linear.{number, few, term, more, added, scaled, form, times, plus, linear, linear_step}
+use Rattle.model_syntax.specs.Linear.{number, few, more, added, scaled, form, times, plus, linear, linear_step}
 use Rattle.model_syntax.specs.Names.{Name, same}
 use Rattle.model_value.specs.Formed.{Light, factors, Small, greatest, BelowForm}
 

@@ -1,5 +1,5 @@
 -- Where names are bound.
-use Rattle.std.specs.Prelude.{ℕ, List, [], ◌∷◌, ◌++◌, Option, Some, None}
+use Rattle.std.specs.Prelude.{ℕ, [], ◌∷◌, ◌++◌, Option, Some, None}
 use Rattle.std.proofs.Math.ListN.{set}
 use Rattle.rup_base.specs.declared.arg.Arg.{Arg}
 use Rattle.model_syntax.specs.Environment.{Env, bound}

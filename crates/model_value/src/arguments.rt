@@ -5,7 +5,7 @@ ghost use Rattle.model_syntax.specs.Value as spec;
 ghost use Rattle.model_value.specs.Refused.{refused};
 
 use crate::environment::{Environment, copy_value, put, size};
-use model_syntax::{Len, Param};
+use model_syntax::{Len, Param, is_of_kind};
 use rup_base::{Arg, ArgFault, List, NoMemory};
 use std::alloc::Global;
 
@@ -27,35 +27,12 @@ pub fn fit(params: &[Param], args: &[Arg]) -> Result<(), ArgFault>
 {
     let mut k: u32 = 0;
     for i in 0..params.len() {
-        if !fits(&params[i], &args[i]) {
+        if !is_of_kind(params[i].kind(), &args[i]) {
             return Err(ArgFault::Param(k));
         }
         k = k.saturating_add(1);
     }
     Ok(())
-}
-
-/// An argument fits a parameter.
-fn fits(param: &Param, arg: &Arg) -> bool
-    ensures { result ≡ spec.fits param.now arg.now }
-{
-    match (param, arg) {
-        (Param::Word(_), Arg::Word(_)) => true,
-        (Param::Byte(_), Arg::Word(n)) => *n <= 255,
-        (Param::Bytes(_, length), Arg::Bytes(bytes)) => fits_length(length, bytes.len()),
-        (Param::Words(_, length), Arg::Words(words)) => fits_length(length, words.len()),
-        _ => false,
-    }
-}
-
-/// An array's length fits: it is the number, or any that a word holds.
-fn fits_length(length: &Len, n: usize) -> bool
-    ensures { result ≡ spec.fits_length length.now n }
-{
-    match length {
-        Len::Fixed(k) => *k as usize == n,
-        Len::Named(_) => n <= 0xffff_ffff,
-    }
 }
 
 /// The environment at the start.

@@ -1,4 +1,4 @@
-use Rattle.std.proofs.Common.{rules, arith, ◌≡◌, sym, ◌∙◌, ℕ, ◌+◌, ◌∷◌, drop}
+use Rattle.std.proofs.Common.{rules, arith, ◌≡◌, sym, ◌∙◌, ◌+◌, ◌∷◌, drop}
 use Rattle.std.proofs.lemmas.Grind.{common_steps}
 use Rattle.model_value.proofs.Bindings.{put_found}
 use Rattle.model_value.proofs.environment.place_of.Goals as goal

@@ -1,6 +1,5 @@
-use Rattle.std.proofs.Common.{rules, arith, ◌≡◌, fold, ℕ, ◌+◌, ◌∷◌, ◌++◌, drop}
+use Rattle.std.proofs.Common.{rules, arith}
 use Rattle.std.proofs.lemmas.Grind.{common_steps}
-use Rattle.model_syntax.specs.Value as spec
 use Rattle.model_value.proofs.Elements.{both_after, turn_after}
 use Rattle.model_value.proofs.execution.folded.Goals as goal
 

@@ -1,6 +1,5 @@
-use Rattle.std.proofs.Common.{rules, arith, ◌≡◌, map, ℕ, ◌+◌, ◌∷◌, ◌++◌, drop}
+use Rattle.std.proofs.Common.{rules, arith}
 use Rattle.std.proofs.lemmas.Grind.{common_steps}
-use Rattle.model_syntax.specs.Value as spec
 use Rattle.model_value.proofs.Elements.{same_after, value_after}
 use Rattle.model_value.proofs.execution.mapped.Goals as goal
 

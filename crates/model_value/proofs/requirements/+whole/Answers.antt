@@ -1,4 +1,4 @@
-use Rattle.std.proofs.Common.{rules, arith, ◌≡◌, ℕ, ◌+◌, ◌*◌, ◌<◌, ◌^◌, ◌∙◌, sym, ap, subst, is_ok, IsTrue}
+use Rattle.std.proofs.Common.{rules, ◌+◌, ◌*◌, ◌∙◌, sym, ap, subst, is_ok, IsTrue}
 use Rattle.model_syntax.specs.Linear.{linear}
 use Rattle.model_value.specs.Formed.{BelowForm}
 use Rattle.model_value.proofs.Sides.{linear_sum, linear_scale, sum_below, scale_below, left_formed, right_formed, fits}

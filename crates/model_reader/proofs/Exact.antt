@@ -10,10 +10,12 @@ use Rattle.sx_text.specs.declared.tree.Sx.{Sx}
 use Rattle.sx_text.specs.Forms.{place, read, judged, fault, rest_of}
 use Rattle.model_syntax.specs.declared.program.Model.{Model}
 use Rattle.model_syntax.specs.Limits.{Within, over_limit, statements, depth, blocks, tables}
+use Rattle.model_syntax.specs.Formed.{model_formed}
 use Rattle.model_syntax.specs.Spelling.{Spellable}
 use Rattle.model_reader.specs.Parts.{Answer}
 use Rattle.model_reader.specs.Reading.{Reads, read_model, model_of_forms, limited}
-use Rattle.model_reader.proofs.Tables.{whole_gives}
+use Rattle.model_reader.proofs.Fine.{IsModel}
+use Rattle.model_reader.proofs.Read.{whole_is_fine}
 
 abbrev answer_of : Model → Answer Model
 answer_of m = Ok m
@@ -104,10 +106,18 @@ answered_all word bytes r m reads within h =
     let P : Answer Model → Type 0 = λ a. Answers r a in
     subst P (is_read word bytes m reads within) h
 
--- a text of a model spells its tables
-text_spells : (bytes : List ℕ) (m : Model) → Reads bytes m → Spellable m
-text_spells bytes m (forms, r, s) = whole_gives (place 0 (length bytes + 1)) forms m s
+-- a text of a model is one of a formed model, whose tables it spells
+pub text_is_fine : (bytes : List ℕ) (m : Model) → Reads bytes m → IsModel m
+text_is_fine bytes m (forms, r, s) = whole_is_fine (place 0 (length bytes + 1)) forms m s
+
+fine_parts : (word : ℕ) (bytes : List ℕ) (m : Model) → read_model word bytes ≡ Ok m → IsModel m
+fine_parts word bytes m h = let p = read_parts word bytes m h in text_is_fine bytes m p.0
 
 pub answered_spellable : (word : ℕ) (bytes : List ℕ) (r : Result Model Fail) → Answers r (read_model word bytes) → IfOk r (λ m. Spellable m)
-answered_spellable word bytes (Ok m) h = let p = read_parts word bytes m h in text_spells bytes m p.0
+answered_spellable word bytes (Ok m) h = (fine_parts word bytes m h).0
 answered_spellable word bytes (Err e) h = tt
+
+pub answered_formed : (word : ℕ) (bytes : List ℕ) (r : Result Model Fail) → Answers r (read_model word bytes)
+    → IfOk r (λ m. model_formed m ≡ true)
+answered_formed word bytes (Ok m) h = (fine_parts word bytes m h).1
+answered_formed word bytes (Err e) h = tt

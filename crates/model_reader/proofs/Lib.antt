@@ -1,5 +1,10 @@
 pub mod Exact
+pub mod Fine
+pub mod FineExprs
+pub mod FineStmts
+pub mod Gives
 pub mod Nth
 pub mod Numerals
+pub mod Read
 pub mod Readings
-pub mod Tables
+pub mod WordNumbers

@@ -1,7 +1,8 @@
 //! The reader of models.
-ghost use Rattle.std.specs.Prelude.{◌≡◌, ◌≤◌, ◌^◌, length, Ok, IfOk};
+ghost use Rattle.std.specs.Prelude.{◌≡◌, ◌≤◌, ◌^◌, ℕ, true, List, length, Ok, IfOk};
 ghost use Rattle.rup_base.specs.Answers.{Answers};
 ghost use Rattle.model_syntax.specs.declared.program.Model as program;
+ghost use Rattle.model_syntax.specs.Formed.{model_formed};
 ghost use Rattle.model_syntax.specs.Limits.{Within};
 ghost use Rattle.model_syntax.specs.Spelling.{Spellable};
 ghost use Rattle.model_reader.specs.Reading as spec;
@@ -23,10 +24,16 @@ pub fn read_model(alloc: Global, word: u32, bytes: &[u8]) -> Result<Model, Fail>
     ensures exact { Answers result (spec.read_model word bytes.now) }
     ensures only { IfOk result (λ m. spec.Reads bytes.now m × Within m) }
     ensures spellable { IfOk result (λ m. Spellable m) }
+    ensures formed { IfOk result (λ m. model_formed m ≡ true) }
     ensures all { (m : program.Model) → spec.Reads bytes.now m → Within m → Answers result (Ok m) }
 {
     model_of_text(alloc, word, bytes)
 }
+
+/// A law: a text of a model is one of a formed model, and the text of models can spell its tables.
+pub fn text_is_of_formed_model()
+    ensures { (bytes : List ℕ) (m : program.Model) → spec.Reads bytes m → (model_formed m ≡ true) × Spellable m }
+{}
 
 fn model_of_text(alloc: Global, word: u32, bytes: &[u8]) -> Result<Model, Fail>
     requires { length bytes.now ≤ 2 ^ 24 }

@@ -1,4 +1,4 @@
-use Rattle.model_reader.proofs.Exact.{answered_only, answered_all, answered_spellable}
+use Rattle.model_reader.proofs.Exact.{answered_only, answered_all, answered_spellable, answered_formed}
 use Rattle.model_reader.proofs.reader.read_model.Goals as goal
 
 pub returns : goal.returns
@@ -10,5 +10,6 @@ returns c =
       exact = c.model_of_text.ensures;
       only = answered_only word bytes result c.model_of_text.ensures;
       spellable = answered_spellable word bytes result c.model_of_text.ensures;
+      formed = answered_formed word bytes result c.model_of_text.ensures;
       all = λ m reads within. answered_all word bytes result m reads within c.model_of_text.ensures;
     }

@@ -1,5 +1,5 @@
 //! Names that a block carries over, and the names of counters and elements.
-ghost use Rattle.std.specs.Prelude.{◌≡◌, []};
+ghost use Rattle.std.specs.Prelude.{◌≡◌, [], ◌∷◌, ◌++◌, OnOk};
 ghost use Rattle.rup_base.specs.Answers.{Answers};
 ghost use Rattle.model_syntax.specs.Names.{listed};
 ghost use Rattle.model_syntax.specs.Types as spec;
@@ -7,6 +7,7 @@ ghost use Rattle.model_types.specs.Placed as placed;
 
 use crate::place::at;
 use crate::scope::{agreed, bind, copy_type, known, scalar_may_take};
+use indexmap::IndexSet;
 use model_syntax::Entry;
 use rup_base::{Fail, List, Name, TypePlace, TypeWhy};
 use std::alloc::Global;
@@ -28,25 +29,45 @@ pub fn once(before: &[Name], x: &Name) -> Result<(), TypeWhy>
     }
 }
 
-/// Names that stand once.
-pub fn distinct(names: &[Name]) -> Result<(), TypeWhy>
-    ensures { result ≡ spec.distinct [] names.now }
+/// Names that stand once. They are looked up among those before them in a set.
+pub fn distinct(alloc: Global, place: TypePlace, names: &[Name]) -> Result<(), Fail>
+    ensures { Answers result (spec.at place (spec.distinct [] names.now)) }
 {
-    for i in 0..names.len() {
-        once(&names[..i], &names[i])?;
+    let mut seen = IndexSet::new(alloc);
+    for x in names {
+        see(alloc, place, &mut seen, x)?;
     }
     Ok(())
 }
 
 /// Names that stand once and are in scope.
-pub fn distinct_known(scope: &[Entry], names: &[Name]) -> Result<(), TypeWhy>
-    ensures { result ≡ spec.distinct_known scope.now [] names.now }
+#[tactic(auto, using(crate::proofs::AtPlace::at_then))]
+pub fn distinct_known(
+    alloc: Global,
+    place: TypePlace,
+    scope: &[Entry],
+    names: &[Name],
+) -> Result<(), Fail>
+    ensures { Answers result (spec.at place (spec.distinct_known scope.now [] names.now)) }
 {
-    for i in 0..names.len() {
-        once(&names[..i], &names[i])?;
-        known(scope, &names[i])?;
+    let mut seen = IndexSet::new(alloc);
+    for x in names {
+        see(alloc, place, &mut seen, x)?;
+        at(place, known(scope, x))?;
     }
     Ok(())
+}
+
+/// A name that is none of those before it, of which it becomes one.
+fn see(alloc: Global, place: TypePlace, before: &mut IndexSet<Name>, x: &Name) -> Result<(), Fail>
+    ensures answers { Answers result (spec.at place (spec.once before.old.keys x.now)) }
+    ensures seen { OnOk result (before.new.keys ≡ before.old.keys ++ x.now ∷ []) }
+{
+    if before.insert(x.copy(alloc)?)? {
+        Ok(())
+    } else {
+        at(place, Err(TypeWhy::Repeated))
+    }
 }
 
 /// The scope with the names of the types that they have at the ends of two blocks.

@@ -1,5 +1,7 @@
 //! The check of a model's types.
+ghost use Rattle.std.specs.Prelude.{◌≡◌, true};
 ghost use Rattle.rup_base.specs.Answers.{Answers};
+ghost use Rattle.model_syntax.specs.Formed.{model_formed};
 ghost use Rattle.model_syntax.specs.Limits.{Within};
 ghost use Rattle.model_syntax.specs.Spelling.{Spellable};
 ghost use Rattle.model_syntax.specs.Types.{judge};
@@ -19,6 +21,7 @@ use std::alloc::Global;
 pub fn check_types(alloc: Global, m: Model) -> Result<Typed, Fail>
     requires within { Within m }
     requires spellable { Spellable m }
+    requires formed { model_formed m ≡ true }
     ensures { Answers (model_of result) (checked m) }
 {
     judge(alloc, &m)?;

@@ -34,7 +34,7 @@ fn check_stmt(alloc: Global, state: State, stmt: &Stmt) -> Result<State, Fail>
         Stmt::Fold(t, a, x, e) => check_fold(alloc, k, scope, t, a, x, e),
         Stmt::If(test, names, keep, first, second) => {
             at(place, wanted(Scalar::Flag, type_of(scope.as_slice(), test)))?;
-            at(place, distinct(names.as_slice()))?;
+            distinct(alloc, place, names.as_slice())?;
             let inner = copy_scope(alloc, scope.as_slice())?;
             let one = check_block(alloc, (next, inner), first.as_slice())?;
             let inner = copy_scope(alloc, scope.as_slice())?;
@@ -54,7 +54,7 @@ fn check_stmt(alloc: Global, state: State, stmt: &Stmt) -> Result<State, Fail>
             at(place, counter(scope.as_slice(), x, names.as_slice()))?;
             at(place, wanted(Scalar::Word, type_of(scope.as_slice(), low)))?;
             at(place, wanted(Scalar::Word, type_of(scope.as_slice(), high)))?;
-            at(place, distinct_known(scope.as_slice(), names.as_slice()))?;
+            distinct_known(alloc, place, scope.as_slice(), names.as_slice())?;
             let inner = copy_scope(alloc, scope.as_slice())?;
             let inner = bind(alloc, inner, x, NameType::Scalar(Scalar::Word))?;
             facts(alloc, place, keep.as_slice(), inner.as_slice())?;

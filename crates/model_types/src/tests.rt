@@ -1,5 +1,6 @@
 //! What no clause says: that the calls succeed where memory is left.
-ghost use Rattle.std.specs.Prelude.{◌≡◌, [], IfOk};
+ghost use Rattle.std.specs.Prelude.{◌≡◌, [], true, IfOk};
+ghost use Rattle.model_syntax.specs.Formed.{model_formed};
 
 use crate::check_types;
 use model_syntax::{Model, Param, Ret, over_limit};
@@ -9,7 +10,8 @@ use std::test::Fail as Failed;
 
 /// `(model m (params (word a)) (require) (do) (ret RETURNED))`
 fn model(alloc: Global, returned: &[u8]) -> Result<Model, Failed>
-    ensures { IfOk result (λ m. m.body ≡ []) }
+    ensures empty { IfOk result (λ m. m.body ≡ []) }
+    ensures formed { IfOk result (λ m. model_formed m ≡ true) }
 {
     let mut params = List::new(alloc);
     params.push(Param::Word(Name::read(alloc, b"a")?.ok_or("a name")?))?;

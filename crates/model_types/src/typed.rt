@@ -1,5 +1,6 @@
 //! Models that are known to be well typed.
-ghost use Rattle.std.specs.Prelude.{◌≡◌, map, IfOk};
+ghost use Rattle.std.specs.Prelude.{◌≡◌, ◌≤◌, true, length, map, IfOk};
+ghost use Rattle.model_syntax.specs.Formed.{model_formed};
 ghost use Rattle.model_syntax.specs.Limits.{Within};
 ghost use Rattle.model_syntax.specs.Spelling.{Spellable};
 ghost use Rattle.model_syntax.specs.Types.{Well, kind_of};
@@ -8,13 +9,14 @@ use model_syntax::Model;
 use rup_base::{Kind, List, NoMemory};
 use std::alloc::Global;
 
-/// A model that is well typed, within the limits and spellable.
+/// A model that is well typed, within the limits, spellable and formed.
 #[derive(Debug, Drop)]
 pub struct Typed {
     pub inner: Model,
     ghost well: { Well inner },
     ghost within: { Within inner },
     ghost spellable: { Spellable inner },
+    ghost formed: { model_formed inner ≡ true },
 }
 
 impl Typed {
@@ -23,13 +25,15 @@ impl Typed {
         ensures well { Well result.now }
         ensures within { Within result.now }
         ensures spellable { Spellable result.now }
+        ensures formed { model_formed result.now ≡ true }
     {
         &self.inner
     }
 
-    /// The kinds of the parameters, in order.
+    /// The kinds of the parameters, in order. There are at most eight.
     pub fn kinds(&self, alloc: Global) -> Result<List<Kind>, NoMemory>
-        ensures { IfOk result (λ kinds. kinds ≡ map kind_of self.now.inner.params) }
+        ensures kinds { IfOk result (λ kinds. kinds ≡ map kind_of self.now.inner.params) }
+        ensures few { IfOk result (λ kinds. length kinds ≤ 8) }
     {
         let mut kinds = List::new(alloc);
         for param in self.inner.params.as_slice() {

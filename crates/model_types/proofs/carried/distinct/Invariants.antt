@@ -1,6 +1,6 @@
-use Rattle.std.proofs.Common.{◌≡◌, [], take, drop}
+use Rattle.std.proofs.Common.{◌≡◌, [], drop}
 use Rattle.model_syntax.specs.Types as spec
 use Rattle.model_types.proofs.carried.distinct.Given as goal
 
-abbrev pub invariant-loop-i : goal.invariant-loop-i
-invariant-loop-i l = spec.distinct (take l.i l.names) (drop l.i l.names) ≡ spec.distinct [] l.names
+abbrev pub invariant-loop-x : goal.invariant-loop-x
+invariant-loop-x l = spec.at l.place (spec.distinct l.seen.keys (drop l.x-index l.names)) ≡ spec.at l.place (spec.distinct [] l.names)

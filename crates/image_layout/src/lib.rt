@@ -2,10 +2,12 @@
 #![tactic(auto)]
 
 mod image;
+mod length;
 mod reading;
 mod writing;
 
 pub use image::Image;
+pub use length::{code_offset, image_length};
 pub use reading::read_image;
 pub use writing::write_image;
 

@@ -14,7 +14,7 @@ use Rattle.plain_code.specs.Serves.{HasWords, Gives, Serves}
 use Rattle.rv_machine.specs.State.{State}
 use Rattle.rv_emit.specs.Ready as code
 use Rattle.run_setup.specs.Ready.{Ready, image_range}
-use Rattle.rv_memory.specs.Ranges.{Within}
+use Rattle.rv_memory.specs.Ranges.{Within, Stands}
 use Rattle.run_setup.specs.Good.{HasResults, IsUnderWay, Returns, Good, requirement, result_place}
 use Rattle.plain_image.specs.Written.{bytes_of}
 use Rattle.plain_image.proofs.Parameters.{Shape, in_registers}
@@ -43,18 +43,16 @@ module _ (m : Model) (shape : Shape m) (checked : Checked) (words : List ℕ) (s
   ready_code : (args : List Arg) (base : ℕ) (s : State) → Ready m i args base s → code.Ready words [] stack (record { start = base; size = length (spelling i) }) (base + i.entry) [] s
   ready_code args base s ready =
       let entry : code_offset i ≡ i.entry = entry_is (length m.params) checked.weight stack (bytes_of words) in
-      let image = ready.mapped.0 in
-      let below = ready.mapped.1.0 in
       record {
-        machine = record { registers = ready.machine.registers; words = ready.machine.words; pc_word = ready.machine.pc_word; bytes = ready.machine.bytes };
+        machine = ready.machine;
         aligned = omega (arith, ready.base_aligned, entry_whole (length m.params) checked.weight stack (bytes_of words));
         from = omega arith;
         to = omega (arith, code_ends, entry);
-        code_stands = subst (λ (k : ℕ). code.Stands s.mem (base + k) (bytes_of words ++ [])) entry (code_stands s.mem base i ready.image_stands);
+        code_stands = subst (λ (k : ℕ). Stands s.mem (base + k) (bytes_of words ++ [])) entry (code_stands s.mem base i ready.image_stands);
         starts = ready.starts;
         stack_aligned = ready.stack_aligned;
         stack_fits = ready.stack_fits;
-        mapped = (record { ends = image.ends; inside = image.inside }, (record { ends = below.ends; inside = below.inside }, tt));
+        mapped = (ready.mapped.0, (ready.mapped.1.0, tt));
         apart = ((ready.apart.0.0, tt), (tt, tt));
         return_aligned = ready.return_aligned;
         return_outside = ready.return_outside;

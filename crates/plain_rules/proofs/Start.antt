@@ -1,9 +1,10 @@
 -- The start: each argument is in the local of its number.
-use Rattle.std.proofs.Common.{◌≡◌, refl, sym, ◌∙◌, ap, subst, arith, ℕ, zero, suc, ◌+◌, ◌<◌, Bool, true, false, List, [], ◌∷◌, ◌++◌, length, Some, None, Ok, slice_get, ⊎_elim}
+use Rattle.std.proofs.Common.{◌≡◌, refl, sym, ◌∙◌, ap, subst, arith, ℕ, zero, suc, ◌+◌, ◌<◌, Bool, true, false, List, [], ◌∷◌, ◌++◌, length, Some, None, Result, Ok, Err, slice_get, if◌then◌else◌, ⊎_elim}
 use Rattle.std.proofs.lemmas.Bool.Decides.{eqb_tells}
 use Rattle.std.specs.List.{list_all}
 use Rattle.rup_base.specs.declared.arg.Arg.{Arg}
 use Rattle.rup_base.specs.declared.arg.Arg.TheVariants.{Word, Bytes, Words}
+use Rattle.rup_base.specs.declared.refusal.Refusal.{Refusal}
 use Rattle.model_syntax.specs.Environment.{Env, put}
 use Rattle.model_syntax.specs.Limits.{next}
 use Rattle.model_syntax.specs.Names.{Name, same}
@@ -23,6 +24,11 @@ use Rattle.plain_rules.proofs.StmtSteps.{known_last, known_before, longer}
 abbrev pub Holds : ℕ → List Arg → Vars → Type 0
 Holds k vs vars = (i n : ℕ) → slice_get vs i ≡ Some (Word n) → local_at vars (k + i) ≡ Some n
 
+-- where all arguments fit, those behind the first do
+fit_behind : (first : Bool) (others : Result (Unit {0}) Refusal) (fault : Refusal) → (if first then others else Err fault) ≡ Ok tt → others ≡ Ok tt
+fit_behind true others fault is = is
+fit_behind false others fault is = absurd (let bad : ◌≡◌ {A = Result (Unit {0}) Refusal} (Err fault) (Ok tt) = is in cc)
+
 pub start_fits : (ps : List Param) (vs : List Arg) (j k : ℕ) (c : Context) (env : Env) (vars : Vars) → list_all is_word ps ≡ true → model.fit j ps vs ≡ Ok tt → length vs ≡ length ps
     → Holds k vs vars → Fits c env vars → Fits (start k ps c) (model.start ps vs env) vars
 start_fits [] vs j k c env vars words fit as_many holds fits = fits
@@ -32,7 +38,7 @@ start_fits (param.Word x ∷ ps) (Word n ∷ vs) j k c env vars words fit as_man
     let has : local_at vars k ≡ Some n = ap (local_at vars) (sym place) ∙ holds 0 n refl in
     let rest : Holds (k + 1) vs vars = λ i q is. let at : k + 1 + i ≡ k + suc i = omega arith in ap (local_at vars) at ∙ holds (suc i) q is in
     let fewer : length vs ≡ length ps = omega (arith, as_many) in
-    start_fits ps vs (next j) (k + 1) (bind x k c) (put x (Word n) env) vars (both_true true (list_all is_word ps) words).1 fit fewer rest (has_fits c env vars x k n fits has)
+    start_fits ps vs (next j) (k + 1) (bind x k c) (put x (Word n) env) vars (both_true true (list_all is_word ps) words).1 (fit_behind (model.fits (param.Word x) (Word n)) (model.fit (next j) ps vs) _ fit) fewer rest (has_fits c env vars x k n fits has)
 start_fits (param.Word x ∷ ps) (Bytes ns ∷ vs) j k c env vars words fit as_many holds fits = absurd (cc)
 start_fits (param.Word x ∷ ps) (Words ns ∷ vs) j k c env vars words fit as_many holds fits = absurd (cc)
 start_fits (param.Byte x ∷ ps) vs j k c env vars words fit as_many holds fits = absurd (let bad : false ≡ true = words in cc)

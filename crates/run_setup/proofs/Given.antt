@@ -1,16 +1,15 @@
 -- Words that give arguments, one after another, and the first that does not.
-use Rattle.std.proofs.Common.{◌≡◌, ℕ, zero, suc, ◌+◌, ◌-◌, ◌<◌, ◌≤◌, Bool, true, nat_eq, List, [], ◌∷◌, ◌++◌, length, take, drop, map, get_or, Option, Some, None, Result, Ok, Err, slice_get, refl, sym, ap, subst, ◌∙◌, add-one, zero-add, length-drop, inr, arith}
+use Rattle.std.proofs.Common.{◌≡◌, ℕ, zero, suc, ◌+◌, ◌-◌, ◌<◌, true, nat_eq, List, [], ◌∷◌, ◌++◌, length, take, drop, map, get_or, Option, Some, None, Result, Ok, Err, slice_get, refl, sym, ap, subst, ◌∙◌, add-one, zero-add, length-drop, inr, arith}
 use Rattle.std.proofs.lemmas.Bool.Decides.{nat_tests}
 use Rattle.std.proofs.Math.Seq.{take-suc, take-length}
 use Rattle.std.proofs.lemmas.List.{drop-map, length-map}
 use Rattle.std.proofs.lemmas.Option.{slice_get-get_or, slice_get-map, slice_get_within, slice_get_past, get_or_from_slice_get}
 use Rattle.rup_base.specs.declared.arg.Kind.{Kind}
 use Rattle.rup_base.specs.declared.arg.Arg.{Arg}
-use Rattle.rup_io.specs.Count.{Rose}
 use Rattle.run_setup.specs.declared.arguments.Source.{Source}
 use Rattle.run_setup.specs.declared.reading.ArgsFail.{ArgsFail}
 use Rattle.run_setup.specs.declared.reading.ArgsFail.TheVariants.{Refused, ReadFault, NoMemory}
-use Rattle.run_setup.specs.Reading.{Files, Gives, AllGive, ReadsFrom, ReadsOne, ReadsEach, ReadsAll, HasCause, only, name_from}
+use Rattle.run_setup.specs.Reading.{Files, Gives, AllGive, ReadsFrom, ReadsEach, ReadsAll, HasCause, only, name_from}
 
 -- an element of a list is one of its image
 pub in_map : {A B : Type 0} (f : A → B) (xs : List A) (k : ℕ) (x : A) → k < length xs → x ≡ get_or xs k x → slice_get (map f xs) k ≡ Some (f x)

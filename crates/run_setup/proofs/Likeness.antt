@@ -1,5 +1,5 @@
 -- The returned arrays of a well typed model have the kinds and lengths of their parameters' arguments.
-use Rattle.std.proofs.Common.{◌≡◌, refl, sym, ◌∙◌, ap, subst, arith, ℕ, zero, suc, ◌+◌, ◌<◌, ◌≤◌, min, nat_eq, Bool, true, false, List, [], ◌∷◌, ◌++◌, length, map, get_or, Option, Some, None, Result, Ok, Err, ◌⊎◌, inl, inr, if◌then◌else◌, append_assoc, length-append}
+use Rattle.std.proofs.Common.{◌≡◌, refl, sym, ◌∙◌, ap, subst, arith, ℕ, ◌+◌, ◌<◌, ◌≤◌, Bool, true, false, List, [], ◌∷◌, ◌++◌, length, map, get_or, Option, Some, None, Ok, Err, ◌⊎◌, inl, inr, if◌then◌else◌, append_assoc, length-append}
 use Rattle.std.specs.Prelude.{slice_index_or, ⊤}
 use Rattle.std.proofs.lemmas.Bool.{eqb-true}
 use Rattle.std.proofs.lemmas.List.{append-nil, get_or_append_left}
@@ -7,10 +7,10 @@ use Rattle.std.proofs.Math.Seq.{get_or-append_seam}
 use Rattle.rup_base.specs.declared.arg.Arg.{Arg}
 use Rattle.rup_base.specs.declared.arg.Arg.TheVariants as arg
 use Rattle.rup_base.specs.declared.refusal.TypePlace.TheVariants.{Params, Return}
-use Rattle.rup_base.specs.declared.refusal.TypeWhy.{TypeWhy}
 use Rattle.rup_base.specs.declared.refusal.TypeWhy.TheVariants as why
 use Rattle.model_syntax.specs.Answer.{◌>>=◌}
 use Rattle.model_syntax.specs.Environment.{Env, value_of, put, number, size}
+use Rattle.model_syntax.specs.Kinds.{is_length}
 use Rattle.model_syntax.specs.Limits.{next}
 use Rattle.model_syntax.specs.Names.{Name, same}
 use Rattle.model_syntax.specs.Scope.{Scope, look_up, bind, same_type, array_in}
@@ -34,7 +34,7 @@ use Rattle.run_setup.specs.Judging.{size_of, total_size}
 use Rattle.run_setup.specs.Good.{name_of, number_among, result_place}
 use Rattle.run_setup.proofs.Symbols.{first_answered, same_self, same_is, value_here, value_else, up_else, up_here, among_before, among_last, among_none, none_before, declare_is, registers_is, AllFit}
 use Rattle.run_setup.proofs.Meeting.{at_answered, fit_all, counts_ok}
-use Rattle.run_setup.proofs.Shapes.{answer_is, type_same, HasShape, array_of, len_of, IsShaped, Shaped, body_keeps}
+use Rattle.run_setup.proofs.Shapes.{answer_is, and_parts, type_same, HasShape, array_of, len_of, Shaped, body_keeps}
 
 -- an array has the kind and the length of another
 abbrev pub IsLike : Arg → Arg → Type 0
@@ -216,9 +216,22 @@ named_begun c env names args a x u n v fresh fresh_length shape b =
             })
         by false here false at = inl (sym (up_else c a y (Many u (Named x)) at) ∙ sym (up_else middle x y (One Word) here) ∙ found)
 
+-- an array has the length of its parameter
+abbrev has_length : Len → ℕ → Bool
+has_length (Fixed n) = is_length (Some n)
+has_length (Named x) = is_length None
+
+bytes_length : (a : Name) (k : Len) (ns : List ℕ) → model.fits (param.Bytes a k) (arg.Bytes ns) ≡ true → has_length k (length ns) ≡ true
+bytes_length a (Fixed n) ns fits = (and_parts (is_length (Some n) (length ns)) _ fits).0
+bytes_length a (Named x) ns fits = (and_parts (is_length None (length ns)) _ fits).0
+
+words_length : (a : Name) (k : Len) (ns : List ℕ) → model.fits (param.Words a k) (arg.Words ns) ≡ true → has_length k (length ns) ≡ true
+words_length a (Fixed n) ns fits = (and_parts (is_length (Some n) (length ns)) _ fits).0
+words_length a (Named x) ns fits = (and_parts (is_length None (length ns)) _ fits).0
+
 -- an array parameter
 array_begun : (c end : Scope) (env : Env) (names : List Name) (args : List Arg) (a : Name) (u : Scalar) (k : Len) (ns : List ℕ) (v : Arg)
-    → (types.declare a (Many u k) c >>= (λ d. types.declare_length k d)) ≡ Ok end → model.fits_length k (length ns) ≡ true → length ns ≤ array_limit → HasShape u (length ns) v
+    → (types.declare a (Many u k) c >>= (λ d. types.declare_length k d)) ≡ Ok end → has_length k (length ns) ≡ true → length ns ≤ array_limit → HasShape u (length ns) v
     → Begun c env names args → Begun end (model.bind_length k (size ns) (put a v env)) (names ++ a ∷ []) (args ++ v ∷ [])
 array_begun c end env names args a u (Fixed n) ns v is fits small shape b =
     let first = first_answered (types.declare a (Many u (Fixed n)) c) _ end is in
@@ -246,13 +259,17 @@ param_begun (param.Word x) v c end env names args is fits small b =
 param_begun (param.Byte x) v c end env names args is fits small b =
     let parts = declare_is x (One Byte) c end is in
     subst (λ (z : Scope). Begun z (put x v env) (names ++ x ∷ []) (args ++ v ∷ [])) parts.1 (scalar_begun c env names args x Byte v parts.0 b)
-param_begun (param.Bytes a k) (arg.Bytes ns) c end env names args is fits small b = array_begun c end env names args a Byte k ns (arg.Bytes ns) is fits small refl b
+param_begun (param.Bytes a k) (arg.Bytes ns) c end env names args is fits small b = array_begun c end env names args a Byte k ns (arg.Bytes ns) is (bytes_length a k ns fits) small refl b
 param_begun (param.Words a k) (arg.Words ns) c end env names args is fits small b =
-    array_begun c end env names args a Word k ns (arg.Words ns) is fits (omega (arith, small)) refl b
-param_begun (param.Bytes a k) (arg.Word n) c end env names args is fits small b = absurd (let bad : false ≡ true = fits in cc)
-param_begun (param.Bytes a k) (arg.Words ns) c end env names args is fits small b = absurd (let bad : false ≡ true = fits in cc)
-param_begun (param.Words a k) (arg.Word n) c end env names args is fits small b = absurd (let bad : false ≡ true = fits in cc)
-param_begun (param.Words a k) (arg.Bytes ns) c end env names args is fits small b = absurd (let bad : false ≡ true = fits in cc)
+    array_begun c end env names args a Word k ns (arg.Words ns) is (words_length a k ns fits) (omega (arith, small)) refl b
+param_begun (param.Bytes a (Fixed m)) (arg.Word n) c end env names args is fits small b = absurd (let bad : false ≡ true = fits in cc)
+param_begun (param.Bytes a (Named x)) (arg.Word n) c end env names args is fits small b = absurd (let bad : false ≡ true = fits in cc)
+param_begun (param.Bytes a (Fixed m)) (arg.Words ns) c end env names args is fits small b = absurd (let bad : false ≡ true = fits in cc)
+param_begun (param.Bytes a (Named x)) (arg.Words ns) c end env names args is fits small b = absurd (let bad : false ≡ true = fits in cc)
+param_begun (param.Words a (Fixed m)) (arg.Word n) c end env names args is fits small b = absurd (let bad : false ≡ true = fits in cc)
+param_begun (param.Words a (Named x)) (arg.Word n) c end env names args is fits small b = absurd (let bad : false ≡ true = fits in cc)
+param_begun (param.Words a (Fixed m)) (arg.Bytes ns) c end env names args is fits small b = absurd (let bad : false ≡ true = fits in cc)
+param_begun (param.Words a (Named x)) (arg.Bytes ns) c end env names args is fits small b = absurd (let bad : false ≡ true = fits in cc)
 
 all_begun : (ps : List Param) (vs : List Arg) (c end : Scope) (env : Env) (names : List Name) (args : List Arg)
     → types.declare_params ps c ≡ Ok end → AllFit ps vs → total_size vs ≤ array_limit → Begun c env names args

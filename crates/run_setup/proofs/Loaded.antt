@@ -1,6 +1,6 @@
 -- The state that a run starts from is ready.
-use Rattle.std.proofs.Common.{◌≡◌, refl, sym, ◌∙◌, ap, subst, arith, ℕ, zero, suc, ◌+◌, ◌-◌, ◌*◌, ◌%◌, ◌<◌, ◌≤◌, nat_le, nat_eq, Bool, true, false, List, [], ◌∷◌, ◌++◌, length, map, get_or, Option, Some, None, Result, Ok, Err, replicate, set, length-set, ◌^◌}
-use Rattle.std.specs.Prelude.{slice_get, slice_set, ⊤}
+use Rattle.std.proofs.Common.{◌≡◌, refl, sym, ◌∙◌, ap, subst, arith, ℕ, suc, ◌+◌, ◌-◌, ◌*◌, ◌%◌, ◌<◌, ◌≤◌, true, false, List, [], ◌∷◌, ◌++◌, length, map, get_or, Some, None, replicate, set, length-set, ◌^◌}
+use Rattle.std.specs.Prelude.{slice_get, slice_set}
 use Rattle.std.specs.List.{AllByRecursion}
 use Rattle.std.proofs.lemmas.List.{length-replicate, get_or-set_same, get_or-set_other}
 use Rattle.std.proofs.lemmas.Grind.{common_steps}
@@ -10,22 +10,19 @@ use Rattle.rup_base.specs.declared.arg.Arg.{Arg}
 use Rattle.rup_base.specs.declared.arg.Arg.TheVariants as arg
 use Rattle.image_layout.specs.declared.image.Image.{Image}
 use Rattle.image_layout.specs.Spelling as image
-use Rattle.image_layout.specs.Spelling.{registers_of}
 use Rattle.model_syntax.specs.declared.program.Model.{Model}
-use Rattle.model_syntax.specs.declared.program.Param.{Param}
-use Rattle.model_syntax.specs.Types.{kind_of}
 use Rattle.model_syntax.specs.Value.{Meets}
-use Rattle.rv_memory.specs.Bytes.{bytes_of}
 use Rattle.rv_machine.specs.State.{State, register}
-use Rattle.rv_memory.specs.Ranges.{Bytes, Range, Within, IsMapped, Apart, AllApart, Stands}
+use Rattle.rv_memory.specs.Ranges.{Bytes, Range, IsMapped, Apart, AllApart, Stands}
 use Rattle.run_setup.specs.Arguments.{bytes_of_words, array_limit}
-use Rattle.run_setup.specs.Judging.{size_of, total_size, fits, length_value}
-use Rattle.run_setup.specs.Loading.{base, return_address, aligned, end_after, end_of, array_region, array_regions, registers_with, argument_values, image_end, stack_start, regions, set_from, registers, start_state}
-use Rattle.run_setup.specs.Ready.{image_range, stack_range, array_range, array_ranges, HasLengthAt, HasArgument, HasArguments, ranges, Ready}
+use Rattle.run_setup.specs.Judging.{total_size}
+use Rattle.run_setup.specs.Loading.{base, return_address, aligned, end_of, array_regions, argument_values, image_end, stack_start, regions, registers, start_state}
+use Rattle.run_setup.specs.Ready.{image_range, stack_range, array_ranges, HasArguments, ranges, Ready}
 use Rattle.rv_machine.specs.Machines.{IsMachine}
 use Rattle.run_setup.specs.Laws.{LoadedIsReady}
-use Rattle.run_setup.proofs.Memory.{Region, all_map, all_both, all_split, all_of_map, all_stand, range_of, mapped, set_length, set_before, set_there}
-use Rattle.run_setup.proofs.Places.{Rises, words_size, aligned_near, aligned_whole, end_bound, end_grows, arrays_rise, image_small, params_most, values_few}
+use Rattle.run_setup.proofs.Memory.{Region, all_map, all_both, all_split, all_of_map, all_stand, range_of, mapped, set_before, set_there}
+use Rattle.image_layout.proofs.laws.Length.{params_most, image_small}
+use Rattle.run_setup.proofs.Places.{words_size, aligned_near, aligned_whole, end_bound, end_grows, arrays_rise, values_few}
 use Rattle.run_setup.proofs.Meeting.{AllOfKind, fitting}
 
 length_of_kind : (kinds : List Kind) (args : List Arg) → AllOfKind kinds args → length args ≡ length kinds
@@ -317,5 +314,5 @@ module _ (i : Image) (args : List Arg) (limits : image.IsWithinLimits i) (fit : 
 
 pub loaded_is_ready : LoadedIsReady
 loaded_is_ready m i args limits params_are meets small numbers =
-    let fit : AllOfKind i.params args = subst (λ (ks : List Kind). AllOfKind ks args) (sym params_are) (fitting m args meets small) in
+    let fit : AllOfKind i.params args = subst (λ (ks : List Kind). AllOfKind ks args) (sym params_are) (fitting m args meets) in
     ready i args limits fit small m meets numbers

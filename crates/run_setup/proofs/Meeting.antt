@@ -1,14 +1,13 @@
 -- Arguments meet a well typed model where an image of it may be called with them.
-use Rattle.std.proofs.Common.{◌≡◌, ◌↔◌, refl, sym, ◌∙◌, ap, subst, arith, ℕ, zero, suc, ◌+◌, ◌<◌, ◌≤◌, nat_le, nat_lt, nat_eq, Bool, true, false, List, [], ◌∷◌, length, map, get_or, Option, Some, None, Result, Ok, Err, pos, if◌then◌else◌}
-use Rattle.std.proofs.lemmas.Bool.{leb-true, le-leb, eqb-true}
+use Rattle.std.proofs.Common.{◌≡◌, ◌↔◌, refl, sym, ◌∙◌, ap, subst, arith, ℕ, ◌+◌, ◌≤◌, nat_le, nat_lt, nat_eq, Bool, true, false, List, [], ◌∷◌, length, map, Option, Some, None, Result, Ok, Err, pos, if◌then◌else◌}
+use Rattle.std.proofs.lemmas.Bool.{le-leb, eqb-true}
 use Rattle.std.proofs.lemmas.Bool.Decides.{nat_tests}
 use Rattle.std.proofs.lemmas.List.{length-map}
 use Rattle.rup_base.specs.declared.arg.Kind.{Kind}
 use Rattle.rup_base.specs.declared.arg.Arg.{Arg}
-use Rattle.rup_base.specs.declared.arg.Arg.TheVariants as arg
 use Rattle.rup_base.specs.declared.refusal.ArgFault.TheVariants as fault
 use Rattle.rup_base.specs.declared.refusal.Refusal.{Refusal}
-use Rattle.rup_base.specs.declared.refusal.Refusal.TheVariants.{BadArguments, ArraysTooLarge}
+use Rattle.rup_base.specs.declared.refusal.Refusal.TheVariants.{BadArguments}
 use Rattle.rup_base.specs.declared.refusal.TypePlace.{TypePlace}
 use Rattle.rup_base.specs.declared.refusal.TypeWhy.{TypeWhy}
 use Rattle.rup_base.specs.declared.refusal.TypeWhy.TheVariants as why
@@ -17,6 +16,7 @@ use Rattle.side_certs.specs.LinearForm.{LinearForm, value_at}
 use Rattle.image_layout.specs.declared.image.Image.{Image}
 use Rattle.model_syntax.specs.Answer.{◌>>=◌}
 use Rattle.model_syntax.specs.Environment.{Env, value_of, number}
+use Rattle.model_syntax.specs.Kinds.{is_of_kind}
 use Rattle.model_syntax.specs.Limits.{next}
 use Rattle.model_syntax.specs.Names.{Name}
 use Rattle.model_syntax.specs.Scope.{Scope, look_up, scalar_in}
@@ -30,17 +30,15 @@ use Rattle.model_syntax.specs.declared.scope.NameType.TheVariants.{Scalar as One
 use Rattle.model_syntax.specs.declared.stmt.Lin.{Lin, Lin-F, ind-Lin, map-Lin, roll-Lin, fold-roll-Lin}
 use Rattle.model_syntax.specs.declared.stmt.Lin.TheOpen as l
 use Rattle.model_syntax.specs.declared.stmt.Le.{Le}
-use Rattle.model_syntax.specs.declared.program.Len.TheVariants.{Fixed, Named}
 use Rattle.model_syntax.specs.declared.program.Param.{Param}
-use Rattle.model_syntax.specs.declared.program.Param.TheVariants as param
 use Rattle.model_syntax.specs.declared.program.Model.{Model}
 use Rattle.run_setup.specs.Arguments.{array_limit}
-use Rattle.run_setup.specs.Judging.{size_of, total_size, capped, fits, by_symbol, holds, symbol_values, judged_count, judged_kinds, judged_size, judged_requirements, judged}
+use Rattle.run_setup.specs.Judging.{total_size, by_symbol, holds, symbol_values, judged_count, judged_kinds, judged_size, judged_requirements, judged}
 use Rattle.run_setup.specs.Good.{entry_names, number_among, side, side_step, requirement}
 use Rattle.run_setup.specs.Laws.{JudgedIsMet}
 use Rattle.run_setup.proofs.Forms.{sum_value, multiple_value, constant_value, symbol_value, difference_test}
 use Rattle.run_setup.proofs.Places.{and_ok, count_ok, size_ok}
-use Rattle.run_setup.proofs.Symbols.{first_answered, Stand, HasSymbol, AllFit, start_stands}
+use Rattle.run_setup.proofs.Symbols.{first_answered, Stand, AllFit, start_stands}
 
 -- Requirements.
 
@@ -120,26 +118,6 @@ module _ (c : Scope) (env : Env) (names : List Name) (values : List ℕ) (stands
 
 -- Parameters.
 
-fits_same : (p : Param) (a : Arg) → size_of a ≤ array_limit → model.fits p a ≡ fits (kind_of p) a
-fits_same (param.Word x) (arg.Word n) small = refl
-fits_same (param.Word x) (arg.Bytes ns) small = refl
-fits_same (param.Word x) (arg.Words ns) small = refl
-fits_same (param.Byte x) (arg.Word n) small = refl
-fits_same (param.Byte x) (arg.Bytes ns) small = refl
-fits_same (param.Byte x) (arg.Words ns) small = refl
-fits_same (param.Bytes x (Fixed k)) (arg.Word n) small = refl
-fits_same (param.Bytes x (Fixed k)) (arg.Bytes ns) small = grind (arith, nat_tests)
-fits_same (param.Bytes x (Fixed k)) (arg.Words ns) small = refl
-fits_same (param.Bytes x (Named k)) (arg.Word n) small = refl
-fits_same (param.Bytes x (Named k)) (arg.Bytes ns) small = le-leb _ _ (omega (arith, small))
-fits_same (param.Bytes x (Named k)) (arg.Words ns) small = refl
-fits_same (param.Words x (Fixed k)) (arg.Word n) small = refl
-fits_same (param.Words x (Fixed k)) (arg.Bytes ns) small = refl
-fits_same (param.Words x (Fixed k)) (arg.Words ns) small = grind (arith, nat_tests)
-fits_same (param.Words x (Named k)) (arg.Word n) small = refl
-fits_same (param.Words x (Named k)) (arg.Bytes ns) small = refl
-fits_same (param.Words x (Named k)) (arg.Words ns) small = le-leb _ _ (omega (arith, small))
-
 pub fit_all : (k : ℕ) (ps : List Param) (args : List Arg) → length args ≡ length ps → model.fit k ps args ≡ Ok tt → AllFit ps args
 fit_all k [] [] many is = tt
 fit_all k [] (a ∷ args) many is = absurd (omega (arith, many))
@@ -156,37 +134,35 @@ all_fit k [] (a ∷ args) all = absurd all
 all_fit k (p ∷ ps) [] all = absurd all
 all_fit k (p ∷ ps) (a ∷ args) all = rw all.0 (all_fit (next k) ps args all.1)
 
-kinds_all : (k : ℕ) (ps : List Param) (args : List Arg) → length args ≡ length ps → total_size args ≤ array_limit → judged_kinds k (map kind_of ps) args ≡ Ok tt → AllFit ps args
-kinds_all k [] [] many small is = tt
-kinds_all k [] (a ∷ args) many small is = absurd (omega (arith, many))
-kinds_all k (p ∷ ps) [] many small is = absurd (omega (arith, many))
-kinds_all k (p ∷ ps) (a ∷ args) many small is =
-    by_test (kinds_all (k + 1) ps args (omega (arith, many)) (omega (arith, small))) (fits (kind_of p) a) refl (fits_same p a (omega (arith, small))) is
+kinds_all : (k : ℕ) (ps : List Param) (args : List Arg) → length args ≡ length ps → judged_kinds k (map kind_of ps) args ≡ Ok tt → AllFit ps args
+kinds_all k [] [] many is = tt
+kinds_all k [] (a ∷ args) many is = absurd (omega (arith, many))
+kinds_all k (p ∷ ps) [] many is = absurd (omega (arith, many))
+kinds_all k (p ∷ ps) (a ∷ args) many is =
+    by_test (kinds_all (k + 1) ps args (omega (arith, many))) (is_of_kind (kind_of p) a) refl is
   where
-    by_test : (judged_kinds (k + 1) (map kind_of ps) args ≡ Ok tt → AllFit ps args) → (test : Bool) → fits (kind_of p) a ≡ test → model.fits p a ≡ fits (kind_of p) a
+    by_test : (judged_kinds (k + 1) (map kind_of ps) args ≡ Ok tt → AllFit ps args) → (test : Bool) → is_of_kind (kind_of p) a ≡ test
         → judged_kinds k (map kind_of (p ∷ ps)) (a ∷ args) ≡ Ok tt → AllFit (p ∷ ps) (a ∷ args)
-    by_test rest true e same h = (same ∙ e, rest (rw e at h))
-    by_test rest false e same h = absurd (let bad : Err (BadArguments (fault.Param k)) ≡ Ok tt = rw e at h in cc)
+    by_test rest true e h = (e, rest (rw e at h))
+    by_test rest false e h = absurd (let bad : Err (BadArguments (fault.Param k)) ≡ Ok tt = rw e at h in cc)
 
-pub all_kinds : (k : ℕ) (ps : List Param) (args : List Arg) → total_size args ≤ array_limit → AllFit ps args → judged_kinds k (map kind_of ps) args ≡ Ok tt
-all_kinds k [] [] small all = refl
-all_kinds k [] (a ∷ args) small all = absurd all
-all_kinds k (p ∷ ps) [] small all = absurd all
-all_kinds k (p ∷ ps) (a ∷ args) small all =
-    let here : fits (kind_of p) a ≡ true = sym (fits_same p a (omega (arith, small))) ∙ all.0 in
-    rw here (all_kinds (k + 1) ps args (omega (arith, small)) all.1)
+pub all_kinds : (k : ℕ) (ps : List Param) (args : List Arg) → AllFit ps args → judged_kinds k (map kind_of ps) args ≡ Ok tt
+all_kinds k [] [] all = refl
+all_kinds k [] (a ∷ args) all = absurd all
+all_kinds k (p ∷ ps) [] all = absurd all
+all_kinds k (p ∷ ps) (a ∷ args) all = rw all.0 (all_kinds (k + 1) ps args all.1)
 
 -- each argument is of its kind
 abbrev pub AllOfKind : List Kind → List Arg → Type 0
 AllOfKind [] [] = Unit {0}
-AllOfKind (k ∷ kinds) (a ∷ args) = (fits k a ≡ true) × AllOfKind kinds args
+AllOfKind (k ∷ kinds) (a ∷ args) = (is_of_kind k a ≡ true) × AllOfKind kinds args
 AllOfKind kinds args = ⊥
 
-all_of_kind : (ps : List Param) (args : List Arg) → total_size args ≤ array_limit → AllFit ps args → AllOfKind (map kind_of ps) args
-all_of_kind [] [] small all = tt
-all_of_kind [] (a ∷ args) small all = absurd all
-all_of_kind (p ∷ ps) [] small all = absurd all
-all_of_kind (p ∷ ps) (a ∷ args) small all = (sym (fits_same p a (omega (arith, small))) ∙ all.0, all_of_kind ps args (omega (arith, small)) all.1)
+all_of_kind : (ps : List Param) (args : List Arg) → AllFit ps args → AllOfKind (map kind_of ps) args
+all_of_kind [] [] all = tt
+all_of_kind [] (a ∷ args) all = absurd all
+all_of_kind (p ∷ ps) [] all = absurd all
+all_of_kind (p ∷ ps) (a ∷ args) all = (all.0, all_of_kind ps args all.1)
 
 -- Both.
 
@@ -206,11 +182,11 @@ counts_ok ps args u e = by_test (nat_eq (length args) (length ps)) refl
     by_test true h = eqb-true (length args) (length ps) h
     by_test false h = absurd (let bad : model.counts ps args ≡ Err (BadArguments fault.Count) = rw h refl in cc)
 
-pub fitting : (m : Model) (args : List Arg) → Meets m args → total_size args ≤ array_limit → AllOfKind (map kind_of m.params) args
-fitting m args meets small =
+pub fitting : (m : Model) (args : List Arg) → Meets m args → AllOfKind (map kind_of m.params) args
+fitting m args meets =
     let count = first_answered (model.counts m.params args) _ tt meets in
     let fit = first_answered (model.fit 0 m.params args) _ tt count.1.1 in
-    all_of_kind m.params args small (fit_all 0 m.params args (counts_ok m.params args count.0 count.1.0) fit.1.0)
+    all_of_kind m.params args (fit_all 0 m.params args (counts_ok m.params args count.0 count.1.0) fit.1.0)
 
 sized : (args : List Arg) → total_size args ≤ array_limit → judged_size args ≡ Ok tt
 sized args small = let test : nat_le (total_size args) array_limit ≡ true = le-leb _ _ small in rw test refl
@@ -236,7 +212,7 @@ module _ (m : Model) (i : Image) (args : List Arg) (well : Well m) (params_are :
       let as_many : length args ≡ length m.params = count_ok i.params args count.0 count.1 ∙ many in
       let small : total_size args ≤ array_limit = size_ok args size.0 size.1 in
       let kinds_hold : judged_kinds 0 (map kind_of m.params) args ≡ Ok tt = ap (λ ks. judged_kinds 0 ks args) (sym params_are) ∙ kinds.1 in
-      let fit : AllFit m.params args = kinds_all 0 m.params args as_many small kinds_hold in (
+      let fit : AllFit m.params args = kinds_all 0 m.params args as_many kinds_hold in (
         then_both (model.counts m.params args) _ tt tt (counted (length args) (length m.params) (Ok tt) (Err (BadArguments fault.Count)) as_many)
             (then_both (model.fit 0 m.params args) _ tt tt (all_fit 0 m.params args fit) ((requirements_agree fit small).1 size.2)),
         small,
@@ -248,7 +224,7 @@ module _ (m : Model) (i : Image) (args : List Arg) (well : Well m) (params_are :
       let fit_all_ok = first_answered (model.fit 0 m.params args) _ tt count.1.1 in
       let as_many : length args ≡ length m.params = counts_ok m.params args count.0 count.1.0 in
       let fit : AllFit m.params args = fit_all 0 m.params args as_many fit_all_ok.1.0 in
-      let kinds_hold : judged_kinds 0 i.params args ≡ Ok tt = ap (λ ks. judged_kinds 0 ks args) params_are ∙ all_kinds 0 m.params args meets.1 fit in
+      let kinds_hold : judged_kinds 0 i.params args ≡ Ok tt = ap (λ ks. judged_kinds 0 ks args) params_are ∙ all_kinds 0 m.params args fit in
       and_both (judged_count i.params args) _ tt tt (counted (length args) (length i.params) (Ok tt) (Err (BadArguments fault.Count)) (as_many ∙ sym many))
       (and_both (judged_kinds 0 i.params args) _ tt tt kinds_hold
       (and_both (judged_size args) _ tt tt (sized args meets.1) ((requirements_agree fit meets.1).0 fit_all_ok.1.1)))

@@ -1,6 +1,6 @@
 -- What a memory of regions that rise has at their addresses, and what registers have that are set one after another.
-use Rattle.std.proofs.Common.{◌≡◌, ◌≢◌, refl, sym, ◌∙◌, ap, subst, arith, ℕ, zero, suc, ◌+◌, ◌-◌, ◌<◌, ◌≤◌, nat_eq, Bool, true, false, cond, List, [], ◌∷◌, ◌++◌, length, map, get_or, set, Option, Some, None, append_assoc, length-set}
-use Rattle.std.specs.Prelude.{slice_get, IsSome, is_some, IfOk, ⊤, ◌^◌, Result, Ok, Err}
+use Rattle.std.proofs.Common.{◌≡◌, ◌≢◌, refl, sym, ◌∙◌, ap, subst, arith, ℕ, zero, suc, ◌+◌, ◌-◌, ◌<◌, ◌≤◌, nat_eq, Bool, true, false, cond, List, [], ◌∷◌, ◌++◌, length, map, get_or, set, Some, None, length-set}
+use Rattle.std.specs.Prelude.{slice_get, is_some, IfOk, ◌^◌, Result, Ok, Err}
 use Rattle.std.specs.List.{AllByRecursion}
 use Rattle.std.specs.Ordering.{nat_cmp, eq_by_cmp}
 use Rattle.std.specs.Cmp.{nat_cmp_total}
@@ -10,7 +10,7 @@ use Rattle.std.proofs.lemmas.Bool.Decides.{nat_tests}
 use Rattle.std.proofs.lemmas.List.{get_or-set_same, get_or-set_other}
 use Rattle.std.proofs.lemmas.Option.{slice_get-get_or, slice_get_within}
 use Rattle.rv_memory.specs.Bytes.{numbered, entries, bytes_of}
-use Rattle.rv_memory.specs.Ranges.{Bytes, Stands, Range, Within, IsMapped}
+use Rattle.rv_memory.specs.Ranges.{Bytes, Stands, Range, IsMapped}
 use Rattle.run_setup.specs.Loading.{set_from, AreBytes}
 use Rattle.run_setup.proofs.Places.{Rises}
 

@@ -1,19 +1,15 @@
 -- Where things stand: regions one after another are disjoint, and they end below 2^32.
-use Rattle.std.proofs.Common.{◌≡◌, ℕ, zero, suc, ◌+◌, ◌-◌, ◌*◌, ◌%◌, ◌^◌, ◌<◌, ◌≤◌, Bool, true, false, nat_eq, nat_le, slice_get, get_or, take, Result, Ok, Err, List, [], ◌∷◌, ◌++◌, length, replicate, Option, Some, None, ℤ, refl, sym, ap, subst, ◌∙◌, length-append, arith}
-use Rattle.std.specs.Prelude.{All, sum_by, IfOk}
-use Rattle.std.specs.List.{flat_map, AllByRecursion}
+use Rattle.std.proofs.Common.{◌≡◌, ℕ, zero, suc, ◌+◌, ◌-◌, ◌*◌, ◌%◌, ◌^◌, ◌<◌, ◌≤◌, Bool, true, false, nat_eq, nat_le, slice_get, get_or, take, Result, Ok, Err, List, [], ◌∷◌, ◌++◌, length, replicate, Option, Some, None, refl, sym, subst, ◌∙◌, length-append, arith}
+use Rattle.std.specs.Prelude.{All, IfOk}
 use Rattle.std.proofs.lemmas.List.Elements.{All-nil, All-cons}
 use Rattle.std.proofs.lemmas.List.{length-replicate, append-nil}
-use Rattle.std.proofs.lemmas.List.Sums.{sum_by-cons}
 use Rattle.rup_base.specs.declared.arg.Kind.{Kind}
 use Rattle.rup_base.specs.declared.arg.Kind.TheVariants as kind
 use Rattle.rup_base.specs.declared.arg.Arg.{Arg}
 use Rattle.rup_base.specs.declared.arg.Arg.TheVariants as arg
-use Rattle.side_certs.specs.LinearForm.{LinearForm}
-use Rattle.cost_poly.specs.declared.term.Term.{Term}
 use Rattle.image_layout.specs.declared.image.Image.{Image}
 use Rattle.image_layout.specs.Spelling as image
-use Rattle.image_layout.proofs.Limits.{params_few, terms_few, rets_few, bound_few}
+use Rattle.image_layout.proofs.laws.Length.{image_small}
 use Rattle.std.proofs.lemmas.Bool.{leb-true, eqb-true}
 use Rattle.std.proofs.lemmas.Option.{slice_get_within, slice_get_read, get_or_from_slice_get}
 use Rattle.rup_base.specs.Answers.{and_then}
@@ -26,7 +22,7 @@ use Rattle.rv_memory.specs.Ranges.{Bytes}
 use Rattle.run_setup.specs.Arguments.{bytes_of_words, array_limit}
 use Rattle.run_setup.specs.Judging.{size_of, total_size, capped, length_value, symbol_values, judged, judged_count, judged_kinds, judged_size}
 use Rattle.run_setup.specs.Results.{array_at}
-use Rattle.run_setup.specs.Loading.{base, aligned, end_after, end_of, array_region, array_regions, registers_with, argument_values, image_end, stack_start, regions}
+use Rattle.run_setup.specs.Loading.{base, aligned, end_after, end_of, array_regions, registers_with, argument_values, image_end, stack_start, regions}
 
 -- Regions that rise from an address on.
 
@@ -102,105 +98,7 @@ arrays_end end (arg.Words words ∷ args) stack below =
     All-cons Ends (aligned end, bytes_of_words words) (array_regions next args ++ (aligned (end_of next args), stack) ∷ [])
     (omega (arith, below, words_size words, end_grows next args, (aligned_near (end_of next args)).0)) (arrays_end next args stack below)
 
--- The image.
-
-params_size : (ks : List Kind) → length (flat_map image.parameter ks) ≤ 8 * length ks
-params_size [] = omega arith
-params_size (kind.Word ∷ ks) = omega (arith, params_size ks)
-params_size (kind.Byte ∷ ks) = omega (arith, params_size ks)
-params_size (kind.Bytes n ∷ ks) = omega (arith, length-append (image.parameter (kind.Bytes n)) (flat_map image.parameter ks), param_bytes n, params_size ks)
-  where
-    param_bytes : (n : Option ℕ) → length (image.parameter (kind.Bytes n)) ≡ 8
-    param_bytes None = refl
-    param_bytes (Some k) = refl
-params_size (kind.Words n ∷ ks) = omega (arith, length-append (image.parameter (kind.Words n)) (flat_map image.parameter ks), param_words n, params_size ks)
-  where
-    param_words : (n : Option ℕ) → length (image.parameter (kind.Words n)) ≡ 8
-    param_words None = refl
-    param_words (Some k) = refl
-
-terms_size : (ts : List (ℕ × ℤ)) → length (flat_map image.form_term ts) ≡ 12 * length ts
-terms_size [] = refl
-terms_size (t ∷ ts) = let rest : length (flat_map image.form_term ts) ≡ 12 * length ts = terms_size ts in omega (arith, rest)
-
-requirements_size : (count : ℕ) (fs : List LinearForm) → count ≤ 8 → AllByRecursion (image.IsRequirement count) fs → length (flat_map image.requirement fs) ≤ 108 * length fs
-requirements_size count [] few all = omega arith
-requirements_size count (f ∷ fs) few all =
-    let terms : 0 + length f.terms ≤ count = terms_few 0 count f.terms (omega arith) all.0.terms_fit in
-    let size : length (image.requirement f) ≡ 12 + 12 * length f.terms = omega (arith, terms_size f.terms) in
-    omega (arith, length-append (image.requirement f) (flat_map image.requirement fs), requirements_size count fs few all.1, size, terms, few)
-
-symbol_size : (s : Option ℕ) → length (image.symbol s) ≡ 4
-symbol_size None = refl
-symbol_size (Some n) = refl
-
-rets_size : (rs : List (Option ℕ)) → length (flat_map image.symbol rs) ≡ 4 * length rs
-rets_size [] = refl
-rets_size (r ∷ rs) = omega (arith, length-append (image.symbol r) (flat_map image.symbol rs), symbol_size r, rets_size rs)
-
-bound_size : (ts : List Term) → length (flat_map image.bound_term ts) ≡ 16 * length ts
-bound_size [] = refl
-bound_size (t ∷ ts) =
-    let size : length (image.bound_term t) ≡ 16 = omega (arith, length-append (image.symbol t.first) (image.symbol t.second ++ image.wide t.coefficient), length-append (image.symbol t.second) (image.wide t.coefficient), symbol_size t.first, symbol_size t.second) in
-    omega (arith, length-append (image.bound_term t) (flat_map image.bound_term ts), size, bound_size ts)
-
-symbols_near : (k : Kind) → image.symbols_of k ≤ image.registers_of k
-symbols_near kind.Word = omega arith
-symbols_near kind.Byte = omega arith
-symbols_near (kind.Bytes None) = omega arith
-symbols_near (kind.Bytes (Some n)) = omega arith
-symbols_near (kind.Words None) = omega arith
-symbols_near (kind.Words (Some n)) = omega arith
-
-symbols_few : (ks : List Kind) → image.symbol_count ks ≤ sum_by image.registers_of ks
-symbols_few [] = omega arith
-symbols_few (k ∷ ks) = omega (arith, symbols_near k, symbols_few ks, sum_by-cons image.symbols_of k ks, sum_by-cons image.registers_of k ks)
-
-lists_small : (i : Image) → image.IsWithinLimits i → length (image.lists i) ≤ 450000
-lists_small i w =
-    let count : image.symbol_count i.params ≤ 8 = omega (arith, symbols_few i.params, w.registers_most) in
-    let kinds : length i.params ≤ 8 = omega (arith, params_few i.params, w.registers_most) in
-    let rets = rets_few i.params i.rets w.rets_fit in
-    let bound = bound_few (image.symbol_count i.params) i.bound count w.bound_fits in
-    let requirements = requirements_size (image.symbol_count i.params) i.requires_ count w.requires_fit in
-    omega (
-      arith,
-      length-append (flat_map image.parameter i.params) (flat_map image.requirement i.requires_ ++ (flat_map image.symbol i.rets ++ flat_map image.bound_term i.bound)),
-      length-append (flat_map image.requirement i.requires_) (flat_map image.symbol i.rets ++ flat_map image.bound_term i.bound),
-      length-append (flat_map image.symbol i.rets) (flat_map image.bound_term i.bound),
-      params_size i.params,
-      requirements,
-      rets_size i.rets,
-      bound_size i.bound,
-      kinds,
-      rets,
-      bound,
-      w.requires_most,
-    )
-
-pub entry_small : (i : Image) → image.IsWithinLimits i → i.entry ≤ 1600000
-entry_small i w = omega (arith, lists_small i w, w.entry_below, w.code_most)
-
-pub params_most : (i : Image) → image.IsWithinLimits i → length i.params ≤ 8
-params_most i w = omega (arith, params_few i.params, w.registers_most)
-
-pub image_small : (i : Image) → image.IsWithinLimits i → length (image.spelling i) ≤ 1600000
-image_small i w =
-    let lists = lists_small i w in
-    let filling : image.code_offset i - image.header_length i ≤ 15 = omega arith in
-    let rest : length (replicate (image.code_offset i - image.header_length i) 0 ++ (i.code ++ i.tables)) ≤ 15 + 1000000 + 131072 =
-    omega (arith, length-append (replicate (image.code_offset i - image.header_length i) 0) (i.code ++ i.tables), length-append i.code i.tables, length-replicate {A = ℕ} (image.code_offset i - image.header_length i) 0, filling, w.code_most, w.tables_most) in
-    omega (
-      arith,
-      length-append (image.fixed_fields i) (image.lists i ++ (replicate (image.code_offset i - image.header_length i) 0 ++ (i.code ++ i.tables))),
-      length-append (image.lists i) (replicate (image.code_offset i - image.header_length i) 0 ++ (i.code ++ i.tables)),
-      fixed_size i,
-      lists,
-      rest,
-    )
-  where
-    fixed_size : (i : Image) → length (image.fixed_fields i) ≡ 48
-    fixed_size i = refl
+-- Registers.
 
 pub values_few : (end : ℕ) (kinds : List Kind) (args : List Arg) → length (argument_values end kinds args) ≤ 2 * length args
 values_few end [] [] = omega arith

@@ -1,6 +1,6 @@
--- A good image is served: its run returns, and its results are printed as the model's.
-use Rattle.std.proofs.Common.{◌≡◌, ◌≢◌, refl, sym, ◌∙◌, ap, subst, arith, ℕ, zero, suc, ◌+◌, ◌*◌, ◌/◌, ◌%◌, ◌<◌, ◌≤◌, ◌^◌, min, List, [], ◌∷◌, ◌++◌, length, map, get_or, take, Option, Some, None, Result, Ok, Err, inl, inr, IfOk, true, false, ◌⊎◌}
-use Rattle.std.specs.Prelude.{slice_get, sum_by, ⊤}
+-- A good image is served: its run returns, and the results are the model's.
+use Rattle.std.proofs.Common.{◌≡◌, ◌≢◌, refl, sym, ◌∙◌, ap, subst, arith, ℕ, zero, suc, ◌+◌, ◌*◌, ◌<◌, ◌≤◌, ◌^◌, min, List, [], ◌∷◌, ◌++◌, length, get_or, take, Option, Some, None, Result, Ok, Err, inl, inr, IfOk, true, ◌⊎◌}
+use Rattle.std.specs.Prelude.{slice_get, sum_by}
 use Rattle.std.specs.List.{AllByRecursion, flat_map}
 use Rattle.std.specs.Int.{w32, from_le_bytes, to_le_bytes}
 use Rattle.std.specs.FinMap.{get}
@@ -17,25 +17,23 @@ use Rattle.cost_poly.specs.Polynomial.{at}
 use Rattle.image_layout.specs.declared.image.Image.{Image}
 use Rattle.image_layout.specs.Spelling as image
 use Rattle.image_layout.specs.Spelling.{registers_of}
-use Rattle.model_syntax.specs.Answer.{◌>>=◌}
 use Rattle.model_syntax.specs.declared.program.Model.{Model}
-use Rattle.model_syntax.specs.Types.{kind_of}
-use Rattle.model_syntax.specs.Value.{Meets, value, results, judge_arguments}
+use Rattle.model_syntax.specs.Kinds.{is_of_kind}
+use Rattle.model_syntax.specs.Value.{Meets, value, results}
 use Rattle.rv_machine.specs.State.{State, register}
 use Rattle.rv_memory.specs.Ranges.{Bytes, Stands}
 use Rattle.rv_machine.specs.Step.{then_step, step, after}
 use Rattle.rv_machine.specs.Run.{Reached, Ran}
 use Rattle.rv_machine.specs.declared.running.End.{End}
 use Rattle.rv_machine.specs.declared.running.End.TheVariants.{Returned, Trapped, OutOfSteps}
-use Rattle.run_setup.specs.Arguments.{bytes_of_words, words_of_bytes, array_limit}
-use Rattle.run_setup.specs.Judging.{total_size, symbol_values, fits}
+use Rattle.run_setup.specs.Arguments.{bytes_of_words, words_of_bytes}
+use Rattle.run_setup.specs.Judging.{symbol_values}
 use Rattle.run_setup.specs.Loading.{base, return_address, aligned, end_after, end_of, registers_with, argument_values, image_end, start_state}
-use Rattle.run_setup.specs.Results.{byte_of, bytes_at, array_at, place_of, results_from, results_of, line_of, lines_of}
+use Rattle.run_setup.specs.Results.{bytes_at, array_at, place_of, results_from, results_of, line_of, lines_of}
 use Rattle.run_setup.specs.Digits.{two_digits}
-use Rattle.run_setup.specs.Ready.{array_bytes, Ready}
-use Rattle.rv_machine.specs.Machines.{IsMachine}
-use Rattle.run_setup.specs.Good.{register_of, HasResults, IsUnderWay, Returns, Good}
-use Rattle.run_setup.specs.Laws.{HasWords, Serves, GoodIsServed, step_limit}
+use Rattle.run_setup.specs.Ready.{array_bytes}
+use Rattle.run_setup.specs.Good.{register_of, HasResults}
+use Rattle.run_setup.specs.Laws.{HasWords, GoodIsServed, step_limit}
 use Rattle.run_setup.proofs.Places.{words_size}
 use Rattle.run_setup.proofs.Meeting.{AllOfKind, fitting}
 use Rattle.run_setup.proofs.Likeness.{IsLike, AreLike, results_like}
@@ -172,7 +170,7 @@ like_array (arg.Word n) result like = absurd like
 like_array (arg.Bytes old) result like = tt
 like_array (arg.Words old) result like = tt
 
-behind_held : (s : State) (end r : ℕ) (k : Kind) (a : Arg) (vs : List ℕ) → fits k a ≡ true → Hold s r (registers_with end k a ++ vs) → Hold s (r + registers_of k) vs
+behind_held : (s : State) (end r : ℕ) (k : Kind) (a : Arg) (vs : List ℕ) → is_of_kind k a ≡ true → Hold s r (registers_with end k a ++ vs) → Hold s (r + registers_of k) vs
 behind_held s end r kind.Word (arg.Word n) vs fit held = rest_held s r n vs held
 behind_held s end r kind.Byte (arg.Word n) vs fit held = rest_held s r n vs held
 behind_held s end r (kind.Bytes None) (arg.Bytes bytes) vs fit held = rest_held_2 s r (aligned end) (length bytes) vs held
@@ -270,7 +268,7 @@ pub good_is_served : GoodIsServed
 good_is_served m i args end t well limits good meets small numbers few ran =
     let like : AreLike i.rets args (results m args) = subst (λ (rs : List (Option ℕ)). AreLike rs args (results m args)) (sym good.rets_are) (results_like m args well meets small) in
     let s = start_state i args in
-    let fit : AllOfKind i.params args = subst (λ (ks : List Kind). AllOfKind ks args) (sym good.params_are) (fitting m args meets small) in
+    let fit : AllOfKind i.params args = subst (λ (ks : List Kind). AllOfKind ks args) (sym good.params_are) (fitting m args meets) in
     let r = good.returns args base s (loaded_is_ready m i args limits good.params_are meets small numbers) in
     let ra : register s.regs 1 ≡ return_address = ra_is i args limits fit small in
     let back : Back return_address r.steps s r.end =

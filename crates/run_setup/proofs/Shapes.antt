@@ -1,16 +1,14 @@
 -- The statements of a well typed model keep the kinds and lengths of arrays.
-use Rattle.std.proofs.Common.{◌≡◌, ◌≢◌, refl, sym, ◌∙◌, ap, subst, arith, ℕ, zero, suc, ◌+◌, ◌%◌, ◌<◌, ◌≤◌, nat_eq, Bool, true, false, ◌&&◌, List, [], ◌∷◌, ◌++◌, length, map, set, length-set, Option, Some, None, Result, Ok, Err, if◌then◌else◌}
+use Rattle.std.proofs.Common.{◌≡◌, refl, sym, ◌∙◌, ap, subst, ℕ, ◌%◌, Bool, true, false, ◌&&◌, List, [], ◌∷◌, length, map, set, length-set, Option, Some, None, Result, Ok, Err, if◌then◌else◌}
 use Rattle.std.proofs.lemmas.List.{length-map}
 use Rattle.std.proofs.lemmas.Bool.{eqb-true}
 use Rattle.rup_base.specs.declared.arg.Arg.{Arg}
 use Rattle.rup_base.specs.declared.arg.Arg.TheVariants as arg
 use Rattle.rup_base.specs.declared.refusal.Refusal.{Refusal}
-use Rattle.rup_base.specs.declared.refusal.TypePlace.{TypePlace}
 use Rattle.rup_base.specs.declared.refusal.TypePlace.TheVariants.{Statement}
 use Rattle.rup_base.specs.declared.refusal.TypeWhy.{TypeWhy}
 use Rattle.rup_base.specs.declared.refusal.TypeWhy.TheVariants as why
-use Rattle.model_syntax.specs.Answer.{◌>>=◌}
-use Rattle.model_syntax.specs.Environment.{Env, value_of, put, put_some, number, with_element, with_each, carry}
+use Rattle.model_syntax.specs.Environment.{Env, value_of, put, put_some, with_element, with_each, carry}
 use Rattle.model_syntax.specs.ExprType.{type_of, wanted}
 use Rattle.model_syntax.specs.Limits.{next}
 use Rattle.model_syntax.specs.Names.{Name, same, listed}
@@ -65,7 +63,7 @@ length_same (Named x) (Named y) is = ap Named (same_is x y is)
 length_same (Fixed n) (Named y) is = absurd (cc)
 length_same (Named x) (Fixed m) is = absurd (cc)
 
-and_parts : (a b : Bool) → (a && b) ≡ true → (a ≡ true) × (b ≡ true)
+pub and_parts : (a b : Bool) → (a && b) ≡ true → (a ≡ true) × (b ≡ true)
 and_parts true true is = (refl, refl)
 and_parts true false is = absurd (cc)
 and_parts false b is = absurd (cc)

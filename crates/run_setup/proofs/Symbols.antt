@@ -1,8 +1,6 @@
 -- At the start of a call the entry symbols have the values of the names that they stand for.
-use Rattle.std.proofs.Common.{◌≡◌, refl, sym, ◌∙◌, ap, subst, arith, ℕ, zero, suc, ◌+◌, ◌<◌, ◌≤◌, nat_le, min, Bool, true, false, List, [], ◌∷◌, ◌++◌, length, map, get_or, Option, Some, None, Result, Ok, Err, if◌then◌else◌, append_assoc, length-append}
+use Rattle.std.proofs.Common.{◌≡◌, refl, sym, ◌∙◌, ap, arith, ℕ, ◌+◌, ◌<◌, ◌≤◌, nat_le, Bool, true, false, List, [], ◌∷◌, ◌++◌, length, map, get_or, Option, Some, None, Result, Ok, Err, if◌then◌else◌, append_assoc, length-append}
 use Rattle.std.specs.Option.{option_or}
-use Rattle.std.proofs.lemmas.Bool.{leb-true}
-use Rattle.std.proofs.lemmas.Bool.Decides.{nat_tests}
 use Rattle.std.proofs.lemmas.List.{append-nil, get_or_append_left}
 use Rattle.std.proofs.Math.Seq.{get_or-append_seam}
 use Rattle.std.proofs.lemmas.Slice.Eq.{bytes_eq-Decides as bytes_decides}
@@ -11,7 +9,7 @@ use Rattle.rup_base.specs.declared.arg.Arg.TheVariants as arg
 use Rattle.rup_base.specs.declared.refusal.TypeWhy.{TypeWhy}
 use Rattle.rup_base.specs.declared.refusal.TypeWhy.TheVariants as why
 use Rattle.model_syntax.specs.Answer.{◌>>=◌}
-use Rattle.model_syntax.specs.Environment.{Env, value_of, put, bound, size, elements}
+use Rattle.model_syntax.specs.Environment.{Env, value_of, put, size}
 use Rattle.model_syntax.specs.Names.{Name, same}
 use Rattle.model_syntax.specs.Scope.{Scope, look_up, bind}
 use Rattle.model_syntax.specs.Types as types
@@ -26,7 +24,7 @@ use Rattle.model_syntax.specs.declared.program.Len.TheVariants.{Fixed, Named}
 use Rattle.model_syntax.specs.declared.program.Param.{Param}
 use Rattle.model_syntax.specs.declared.program.Param.TheVariants as param
 use Rattle.run_setup.specs.Arguments.{array_limit}
-use Rattle.run_setup.specs.Judging.{size_of, total_size, symbols_of, symbol_values, length_value}
+use Rattle.run_setup.specs.Judging.{size_of, total_size, symbols_of, symbol_values}
 use Rattle.run_setup.specs.Good.{entry_names, number_among}
 
 -- Questions in turn that were answered.
@@ -249,10 +247,14 @@ param_stands (param.Word x) (arg.Bytes ns) c end env names values is fits small 
 param_stands (param.Word x) (arg.Words ns) c end env names values is fits small s = absurd (let bad : false ≡ true = fits in cc)
 param_stands (param.Byte x) (arg.Bytes ns) c end env names values is fits small s = absurd (let bad : false ≡ true = fits in cc)
 param_stands (param.Byte x) (arg.Words ns) c end env names values is fits small s = absurd (let bad : false ≡ true = fits in cc)
-param_stands (param.Bytes a k) (arg.Word n) c end env names values is fits small s = absurd (let bad : false ≡ true = fits in cc)
-param_stands (param.Bytes a k) (arg.Words ns) c end env names values is fits small s = absurd (let bad : false ≡ true = fits in cc)
-param_stands (param.Words a k) (arg.Word n) c end env names values is fits small s = absurd (let bad : false ≡ true = fits in cc)
-param_stands (param.Words a k) (arg.Bytes ns) c end env names values is fits small s = absurd (let bad : false ≡ true = fits in cc)
+param_stands (param.Bytes a (Fixed m)) (arg.Word n) c end env names values is fits small s = absurd (let bad : false ≡ true = fits in cc)
+param_stands (param.Bytes a (Named x)) (arg.Word n) c end env names values is fits small s = absurd (let bad : false ≡ true = fits in cc)
+param_stands (param.Bytes a (Fixed m)) (arg.Words ns) c end env names values is fits small s = absurd (let bad : false ≡ true = fits in cc)
+param_stands (param.Bytes a (Named x)) (arg.Words ns) c end env names values is fits small s = absurd (let bad : false ≡ true = fits in cc)
+param_stands (param.Words a (Fixed m)) (arg.Word n) c end env names values is fits small s = absurd (let bad : false ≡ true = fits in cc)
+param_stands (param.Words a (Named x)) (arg.Word n) c end env names values is fits small s = absurd (let bad : false ≡ true = fits in cc)
+param_stands (param.Words a (Fixed m)) (arg.Bytes ns) c end env names values is fits small s = absurd (let bad : false ≡ true = fits in cc)
+param_stands (param.Words a (Named x)) (arg.Bytes ns) c end env names values is fits small s = absurd (let bad : false ≡ true = fits in cc)
 
 names_first : (p : Param) (ps : List Param) → entry_names (p ∷ ps) ≡ entry_names (p ∷ []) ++ entry_names ps
 names_first (param.Word x) ps = refl

@@ -1,11 +1,12 @@
 -- Arguments of a call, one for each parameter: what a word of a command line, or the file that it names, says of one.
-use Rattle.std.specs.Prelude.{◌≡◌, ℕ, ◌/◌, ◌%◌, ◌&&◌, Bool, true, nat_eq, nat_le, List, [], ◌∷◌, length, Option, Some, None, option_map, option_and_then, codes, if◌then◌else◌}
+use Rattle.std.specs.Prelude.{ℕ, ◌%◌, nat_eq, List, [], ◌∷◌, length, Option, Some, None, option_and_then, codes, if◌then◌else◌}
 use Rattle.std.specs.List.{flat_map}
 use Rattle.std.specs.Int.{w32, to_le_bytes, from_le_bytes}
 use Rattle.rup_base.specs.declared.arg.Kind.{Kind}
 use Rattle.rup_base.specs.declared.arg.Kind.TheVariants as kind
 use Rattle.rup_base.specs.declared.arg.Arg.{Arg}
 use Rattle.rup_base.specs.declared.arg.Arg.TheVariants as arg
+use Rattle.model_syntax.specs.Kinds.{is_of_kind}
 use Rattle.run_setup.specs.declared.arguments.Source.{Source}
 use Rattle.run_setup.specs.declared.arguments.Source.TheVariants.{ByItself, ByFile}
 use Rattle.run_setup.specs.Digits.{number, behind, hex_bytes}
@@ -23,27 +24,21 @@ abbrev pub words_of_bytes : List ℕ → List ℕ
 words_of_bytes (a ∷ b ∷ c ∷ d ∷ rest) = from_le_bytes w32 (a ∷ b ∷ c ∷ d ∷ []) ∷ words_of_bytes rest
 words_of_bytes bytes = []
 
--- an array has its fixed number of elements; a named length is the array's
-abbrev pub is_length : Option ℕ → ℕ → Bool
-is_length None n = true
-is_length (Some wanted) n = nat_eq n wanted
+-- an argument, if it is one of the kind
+abbrev pub of_kind : Kind → Arg → Option Arg
+of_kind kind a = if is_of_kind kind a then Some a else None
 
 -- the array whose bytes these are
 abbrev pub array_of : Kind → List ℕ → Option Arg
 array_of kind.Word bytes = None
 array_of kind.Byte bytes = None
-array_of (kind.Bytes wanted) bytes = if is_length wanted (length bytes) then Some (arg.Bytes bytes) else None
-array_of (kind.Words wanted) bytes =
-    if nat_eq (length bytes % 4) 0 && is_length wanted (length bytes / 4) then Some (arg.Words (words_of_bytes bytes)) else None
+array_of (kind.Bytes fixed) bytes = of_kind (kind.Bytes fixed) (arg.Bytes bytes)
+array_of (kind.Words fixed) bytes =
+    if nat_eq (length bytes % 4) 0 then of_kind (kind.Words fixed) (arg.Words (words_of_bytes bytes)) else None
 
-abbrev pub byte_argument : ℕ → Option Arg
-byte_argument n = if nat_le n 255 then Some (arg.Word n) else None
-
--- a number as an argument; a byte is at most 255
+-- a number as an argument
 abbrev pub scalar_of : Kind → Option ℕ → Option Arg
-scalar_of kind None = None
-scalar_of kind.Byte (Some n) = byte_argument n
-scalar_of kind (Some n) = Some (arg.Word n)
+scalar_of kind n = option_and_then (λ n. of_kind kind (arg.Word n)) n
 
 -- an array behind `hex:`, or else in a file
 abbrev pub array_source : Kind → Option (List ℕ) → Source
@@ -54,5 +49,5 @@ array_source kind (Some digits) = ByItself (option_and_then (array_of kind) (hex
 abbrev pub source_of : Kind → List ℕ → Source
 source_of kind.Word text = ByItself (scalar_of kind.Word (number text))
 source_of kind.Byte text = ByItself (scalar_of kind.Byte (number text))
-source_of (kind.Bytes wanted) text = array_source (kind.Bytes wanted) (behind (codes "hex:") text)
-source_of (kind.Words wanted) text = array_source (kind.Words wanted) (behind (codes "hex:") text)
+source_of (kind.Bytes fixed) text = array_source (kind.Bytes fixed) (behind (codes "hex:") text)
+source_of (kind.Words fixed) text = array_source (kind.Words fixed) (behind (codes "hex:") text)

@@ -27,7 +27,7 @@ use Rattle.rv_machine.specs.Machines.{IsSaved}
 use Rattle.rv_machine.specs.Step.{after}
 use Rattle.run_setup.specs.Judging.{symbol_values}
 use Rattle.run_setup.specs.Ready.{array_bytes, image_range, stack_range, array_range, Ready}
-use Rattle.rv_memory.specs.Ranges.{Range, Within, Stands}
+use Rattle.rv_memory.specs.Ranges.{Within, Stands}
 
 -- The parameters, requirements and results of a model, as an image has them.
 

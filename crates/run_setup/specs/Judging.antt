@@ -1,6 +1,6 @@
 -- When an image may be called with arguments, and the first fault of the others: their count, a parameter, the size
 -- of their arrays, a requirement.
-use Rattle.std.specs.Prelude.{ℕ, ◌+◌, ◌-◌, ◌*◌, ◌^◌, Bool, true, false, nat_eq, nat_le, min, List, [], ◌∷◌, ◌++◌, length, Option, Some, None, Result, Ok, Err, ℤ, pos, int_le, slice_index_or, if◌then◌else◌}
+use Rattle.std.specs.Prelude.{ℕ, ◌+◌, ◌-◌, ◌*◌, ◌^◌, Bool, nat_eq, nat_le, min, List, [], ◌∷◌, ◌++◌, length, None, Result, Ok, Err, pos, int_le, slice_index_or, if◌then◌else◌}
 use Rattle.rup_base.specs.declared.arg.Kind.{Kind}
 use Rattle.rup_base.specs.declared.arg.Kind.TheVariants as kind
 use Rattle.rup_base.specs.declared.arg.Arg.{Arg}
@@ -11,24 +11,17 @@ use Rattle.rup_base.specs.declared.refusal.Refusal.TheVariants.{BadArguments, Ar
 use Rattle.rup_base.specs.Answers.{and_then}
 use Rattle.side_certs.specs.LinearForm.{LinearForm, value_at}
 use Rattle.image_layout.specs.declared.image.Image.{Image}
-use Rattle.run_setup.specs.Arguments.{is_length, array_limit}
+use Rattle.model_syntax.specs.Kinds.{is_of_kind}
+use Rattle.run_setup.specs.Arguments.{array_limit}
 
 -- there is an argument for each parameter
 abbrev pub judged_count : List Kind → List Arg → Result (Unit {0}) Refusal
 judged_count kinds args = if nat_eq (length args) (length kinds) then Ok tt else Err (BadArguments fault.Count)
 
--- an argument is of its parameter's kind: a byte is at most 255, an array has its fixed number of elements
-abbrev pub fits : Kind → Arg → Bool
-fits kind.Word (arg.Word n) = true
-fits kind.Byte (arg.Word n) = nat_le n 255
-fits (kind.Bytes wanted) (arg.Bytes bytes) = is_length wanted (length bytes)
-fits (kind.Words wanted) (arg.Words words) = is_length wanted (length words)
-fits kind a = false
-
--- the arguments for the parameters from number k on
+-- the arguments for the parameters from number k on are of their kinds
 abbrev pub judged_kinds : ℕ → List Kind → List Arg → Result (Unit {0}) Refusal
 judged_kinds k (kind ∷ kinds) (a ∷ args) =
-    if fits kind a then judged_kinds (k + 1) kinds args else Err (BadArguments (fault.Param k))
+    if is_of_kind kind a then judged_kinds (k + 1) kinds args else Err (BadArguments (fault.Param k))
 judged_kinds k kinds args = Ok tt
 
 -- the bytes of an array

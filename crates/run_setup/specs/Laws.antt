@@ -19,7 +19,7 @@ use Rattle.run_setup.specs.Loading.{base, return_address, start_state}
 use Rattle.run_setup.specs.Results.{results_of, lines_of}
 use Rattle.run_setup.specs.Ready.{Ready}
 use Rattle.rv_machine.specs.Machines.{IsMachine}
-use Rattle.run_setup.specs.Good.{requirement, Good}
+use Rattle.run_setup.specs.Good.{requirement, Returns, Good}
 
 -- the greatest number of steps of a run
 abbrev pub step_limit : ℕ
@@ -35,6 +35,10 @@ JudgedIsMet = (m : Model) (i : Image) (args : List Arg) → Well m → i.params 
 abbrev pub LoadedIsReady : Type 0
 LoadedIsReady = (m : Model) (i : Image) (args : List Arg) → IsWithinLimits i → i.params ≡ map kind_of m.params → Meets m args → total_size args ≤ array_limit
     → IsMachine (start_state i args) → Ready m i args base (start_state i args)
+
+-- a call from a ready state that returned has ended in a machine state
+abbrev pub ReturnedIsMachine : Type 0
+ReturnedIsMachine = (m : Model) (i : Image) (args : List Arg) (start : ℕ) (s : State) → Ready m i args start s → (r : Returns m i args start s) → IsMachine r.end
 
 -- the elements of an array of words are words
 abbrev pub HasWords : Arg → Type 0

@@ -16,7 +16,7 @@ use Rattle.rv_machine.specs.declared.machine.Machine.{Machine}
 use Rattle.rv_machine.specs.State.{State}
 use Rattle.rv_machine.specs.View.{state_of}
 use Rattle.run_setup.specs.Arguments.{bytes_of_words}
-use Rattle.run_setup.specs.Judging.{size_of, length_value, judged}
+use Rattle.run_setup.specs.Judging.{length_value, judged}
 
 -- where the image stands
 abbrev pub base : ℕ

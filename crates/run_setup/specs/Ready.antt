@@ -1,7 +1,6 @@
 -- When a state of the machine is ready for a call of an image, which is one of a model, at an address.
-use Rattle.std.specs.Prelude.{◌≡◌, ℕ, ◌+◌, ◌-◌, ◌%◌, ◌^◌, ◌<◌, ◌≤◌, List, [], ◌∷◌, length, Option, Some, None, IsSome, slice_get, ⊤}
+use Rattle.std.specs.Prelude.{◌≡◌, ℕ, ◌+◌, ◌-◌, ◌%◌, ◌≤◌, List, [], ◌∷◌, length, Option, Some, None, ⊤}
 use Rattle.std.specs.List.{AllByRecursion}
-use Rattle.std.specs.FinMap.{get}
 use Rattle.rup_base.specs.declared.arg.Kind.{Kind}
 use Rattle.rup_base.specs.declared.arg.Kind.TheVariants as kind
 use Rattle.rup_base.specs.declared.arg.Arg.{Arg}
@@ -11,7 +10,7 @@ use Rattle.image_layout.specs.Spelling.{spelling, registers_of}
 use Rattle.model_syntax.specs.declared.program.Model.{Model}
 use Rattle.model_syntax.specs.Value.{Meets}
 use Rattle.rv_machine.specs.State.{State, register}
-use Rattle.rv_memory.specs.Ranges.{Range, Within, IsMapped, Apart, AllApart, Stands}
+use Rattle.rv_memory.specs.Ranges.{Range, Within, IsMapped, AllApart, Stands}
 use Rattle.rv_machine.specs.Machines.{IsMachine}
 use Rattle.run_setup.specs.Arguments.{bytes_of_words}
 

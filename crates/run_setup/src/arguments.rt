@@ -4,16 +4,18 @@ ghost use Rattle.run_setup.specs.Arguments as spec;
 ghost use Rattle.run_setup.specs.Digits as digits;
 
 use crate::digits::{behind, hex_bytes, number};
+use model_syntax::is_of_kind;
 use rup_base::{Arg, Kind, List, NoMemory, Text};
 use std::alloc::Global;
 
-/// An array has its fixed number of elements; a named length is the array's.
-fn is_length(wanted: Option<u32>, length: usize) -> bool
-    ensures { result ≡ spec.is_length wanted length }
+/// The argument, if it is one of the kind.
+fn of_kind(kind: Kind, arg: Arg) -> Option<Arg>
+    ensures { result ≡ spec.of_kind kind arg }
 {
-    match wanted {
-        None => true,
-        Some(wanted) => wanted as usize == length,
+    if is_of_kind(kind, &arg) {
+        Some(arg)
+    } else {
+        None
     }
 }
 
@@ -37,17 +39,11 @@ pub fn array_of(alloc: Global, kind: Kind, bytes: Text) -> Result<Option<Arg>, N
     match kind {
         Kind::Word => Ok(None),
         Kind::Byte => Ok(None),
-        Kind::Bytes(wanted) => {
-            if is_length(wanted, bytes.len()) {
-                Ok(Some(Arg::Bytes(bytes)))
-            } else {
-                Ok(None)
-            }
-        }
-        Kind::Words(wanted) => {
-            if bytes.len() % 4 == 0 && is_length(wanted, bytes.len() / 4) {
+        Kind::Bytes(_) => Ok(of_kind(kind, Arg::Bytes(bytes))),
+        Kind::Words(_) => {
+            if bytes.len() % 4 == 0 {
                 let words = words_of(alloc, bytes.as_slice())?;
-                Ok(Some(Arg::Words(words)))
+                Ok(of_kind(kind, Arg::Words(words)))
             } else {
                 Ok(None)
             }
@@ -64,20 +60,10 @@ pub enum Source {
     ByFile,
 }
 
-fn byte_argument(n: u32) -> Option<Arg>
-    ensures { result ≡ spec.byte_argument n }
-{
-    if n <= 255 { Some(Arg::Word(n)) } else { None }
-}
-
 fn scalar_of(kind: Kind, n: Option<u32>) -> Option<Arg>
     ensures { result ≡ spec.scalar_of kind n }
 {
-    match (kind, n) {
-        (_, None) => None,
-        (Kind::Byte, Some(n)) => byte_argument(n),
-        (_, Some(n)) => Some(Arg::Word(n)),
-    }
+    of_kind(kind, Arg::Word(n?))
 }
 
 fn array_source(alloc: Global, kind: Kind, text: &[u8]) -> Result<Source, NoMemory>

@@ -3,10 +3,11 @@ ghost use Rattle.std.specs.Prelude.{◌≡◌, ◌≤◌, ◌<◌, ◌+◌, ◌*
 ghost use Rattle.rup_base.specs.Answers.{Answers};
 ghost use Rattle.image_layout.specs.Spelling.{IsWithinLimits};
 ghost use Rattle.side_certs.specs.LinearForm.{value_at, terms_at};
-ghost use Rattle.run_setup.specs.Arguments.{is_length, array_limit};
+ghost use Rattle.run_setup.specs.Arguments.{array_limit};
 ghost use Rattle.run_setup.specs.Judging as spec;
 
 use image_layout::Image;
+use model_syntax::is_of_kind;
 use rup_base::{Arg, ArgFault, Fail, Kind, List, NoMemory, Refusal};
 use side_certs::Form;
 use std::alloc::Global;
@@ -16,7 +17,7 @@ const ARRAY_LIMIT: u64 = 67_108_864;
 
 /// The image may be called with the arguments, or is refused for the first fault: their count, a parameter, the size
 /// of all arrays, a requirement.
-#[tactic(auto, using(crate::proofs::Places::params_most))]
+#[tactic(auto, using(image_layout::proofs::laws::Length::params_most))]
 pub fn judge(alloc: Global, i: &Image, args: &[Arg]) -> Result<(), Fail>
     requires { IsWithinLimits i.now }
     ensures answer { Answers result (spec.judged i.now args.now) }
@@ -43,36 +44,13 @@ fn judge_count(kinds: &[Kind], args: &[Arg]) -> Result<(), Fail>
     Ok(())
 }
 
-/// An array has its fixed number of elements.
-fn has_length(wanted: Option<u32>, length: usize) -> bool
-    ensures { result ≡ is_length wanted length }
-{
-    match wanted {
-        None => true,
-        Some(wanted) => wanted as usize == length,
-    }
-}
-
-/// An argument is of its parameter's kind.
-fn fits(kind: Kind, arg: &Arg) -> bool
-    ensures { result ≡ spec.fits kind arg.now }
-{
-    match (kind, arg) {
-        (Kind::Word, Arg::Word(_)) => true,
-        (Kind::Byte, Arg::Word(n)) => *n <= 255,
-        (Kind::Bytes(wanted), Arg::Bytes(bytes)) => has_length(wanted, bytes.len()),
-        (Kind::Words(wanted), Arg::Words(words)) => has_length(wanted, words.len()),
-        _ => false,
-    }
-}
-
 fn judge_kinds(kinds: &[Kind], args: &[Arg]) -> Result<(), Fail>
     requires count { length args.now ≡ length kinds.now }
     requires few { length kinds.now < 2 ^ 32 }
     ensures { Answers result (spec.judged_kinds 0 kinds.now args.now) }
 {
     for k in 0..kinds.len() {
-        if !fits(kinds[k], &args[k]) {
+        if !is_of_kind(kinds[k], &args[k]) {
             return Err(Fail::Refused(Refusal::BadArguments {
                 which: ArgFault::Param(k as u32),
             }));

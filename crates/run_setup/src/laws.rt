@@ -1,5 +1,5 @@
 //! What holds of images and their models.
-ghost use Rattle.run_setup.specs.Laws.{JudgedIsMet, LoadedIsReady, GoodIsServed};
+ghost use Rattle.run_setup.specs.Laws.{JudgedIsMet, LoadedIsReady, ReturnedIsMachine, GoodIsServed};
 
 /// An image with the parameters and requirements of a well typed model is called with arguments exactly where they
 /// meet the model and their arrays have at most 67,108,864 bytes in sum.
@@ -11,6 +11,12 @@ pub fn judged_is_met()
 /// meet the model and their arrays have at most 67,108,864 bytes in sum.
 pub fn loaded_is_ready()
     ensures { LoadedIsReady }
+{}
+
+/// Where the call of a good image from a ready state has returned, the registers are words and the bytes are bytes, as
+/// they are in every state of a machine.
+pub fn returned_is_machine()
+    ensures { ReturnedIsMachine }
 {}
 
 /// The run of a good image with arguments that meet its model, whose arrays have at most 67,108,864 bytes in sum and

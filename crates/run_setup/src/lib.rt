@@ -12,7 +12,7 @@ mod results;
 
 pub use digits::put_word;
 pub use judging::{judge_size, symbol_values};
-pub use laws::{good_is_served, judged_is_met, loaded_is_ready};
+pub use laws::{good_is_served, judged_is_met, loaded_is_ready, returned_is_machine};
 pub use loading::{RETURN_ADDRESS, load};
 pub use reading::{ArgsFail, read_args};
 pub use results::{print_results, read_results};

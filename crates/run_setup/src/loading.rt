@@ -95,13 +95,21 @@ fn place_of_entry(i: &Image) -> u32
 }
 
 /// The bytes of the image, of which there are at most 1,600,000.
-pub fn image_bytes(alloc: Global, i: &Image) -> Result<Text, NoMemory>
+fn image_bytes(alloc: Global, i: &Image) -> Result<Text, NoMemory>
     requires { IsWithinLimits i.now }
     ensures bytes { IfOk result (λ bytes. bytes ≡ spelling i.now) }
     ensures small { IfOk result (λ bytes. length bytes ≤ 1600000) }
 {
     let bytes = write_image(alloc, i)?;
     Ok(bytes)
+}
+
+/// The next address at which an array or the stack may begin.
+pub fn aligned(address: u32) -> u32
+    requires { address ≤ 2 ^ 29 }
+    ensures { result ≡ spec.aligned address }
+{
+    address.next_multiple_of(16)
 }
 
 /// The end of everything with an argument behind it.
@@ -112,8 +120,8 @@ fn end_after(end: u32, arg: &Arg) -> u32
 {
     match arg {
         Arg::Word(_) => end,
-        Arg::Bytes(bytes) => end.next_multiple_of(16) + bytes.len() as u32,
-        Arg::Words(words) => end.next_multiple_of(16) + 4 * words.len() as u32,
+        Arg::Bytes(bytes) => aligned(end) + bytes.len() as u32,
+        Arg::Words(words) => aligned(end) + 4 * words.len() as u32,
     }
 }
 
@@ -143,7 +151,7 @@ fn registers(alloc: Global, i: &Image, args: &[Arg], image_end: u32) -> Result<[
     ensures { IfOk result (λ regs. regs ≡ spec.registers i.now args.now) }
 {
     let values = argument_values(alloc, image_end, i.params.as_slice(), args)?;
-    let stack_start = end_of(image_end, args).next_multiple_of(16);
+    let stack_start = aligned(end_of(image_end, args));
     let mut regs = [0; 32];
     regs[1] = RETURN_ADDRESS;
     regs[2] = stack_start + i.stack;
@@ -173,11 +181,11 @@ fn put_values(values: &mut List<u32>, end: u32, kind: Kind, arg: &Arg) -> Result
     match arg {
         Arg::Word(n) => values.push(*n),
         Arg::Bytes(bytes) => {
-            values.push(end.next_multiple_of(16))?;
+            values.push(aligned(end))?;
             put_length(values, kind, bytes.len())
         }
         Arg::Words(words) => {
-            values.push(end.next_multiple_of(16))?;
+            values.push(aligned(end))?;
             put_length(values, kind, words.len())
         }
     }
@@ -242,7 +250,7 @@ fn regions(
     ensures { IfOk result (λ regions. regions ≡ spec.regions i.now args.now) }
 {
     let image_end = BASE + image.len() as u32;
-    let stack_start = end_of(image_end, args).next_multiple_of(16);
+    let stack_start = aligned(end_of(image_end, args));
     let mut regions = List::new(alloc);
     regions.push((BASE, image))?;
     put_arrays(alloc, &mut regions, image_end, args)?;
@@ -264,11 +272,11 @@ fn put_array(
         Arg::Word(_) => Ok(()),
         Arg::Bytes(bytes) => {
             let copy = Text::from_slice(alloc, bytes.as_slice())?;
-            regions.push((end.next_multiple_of(16), copy))
+            regions.push((aligned(end), copy))
         }
         Arg::Words(words) => {
             let bytes = bytes_of_words(alloc, words.as_slice())?;
-            regions.push((end.next_multiple_of(16), bytes))
+            regions.push((aligned(end), bytes))
         }
     }
 }

@@ -5,15 +5,15 @@ ghost use Rattle.run_setup.specs.Digits.{two_digits};
 ghost use Rattle.run_setup.specs.Arguments.{array_limit, bytes_of_words};
 ghost use Rattle.run_setup.specs.Results as spec;
 ghost use Rattle.run_setup.specs.Judging.{judged, size_of, total_size};
-ghost use Rattle.run_setup.specs.Loading.{aligned, end_of};
+ghost use Rattle.run_setup.specs.Loading as loading;
 ghost use Rattle.image_layout.specs.Spelling.{IsWithinLimits};
 ghost use Rattle.image_layout.specs.Reading.{scalars};
 ghost use Rattle.rv_machine.specs.View.{state_of};
 
 use crate::arguments::words_of;
 use crate::digits::{put_bytes, put_word};
-use crate::loading::{BASE, end_of, image_bytes};
-use image_layout::Image;
+use crate::loading::{BASE, aligned, end_of};
+use image_layout::{Image, image_length};
 use rup_base::{Arg, Args, List, NoMemory, Results, Text};
 use rv_machine::Machine;
 use rv_memory::Memory;
@@ -26,8 +26,7 @@ pub fn read_results(alloc: Global, m: &Machine, i: &Image, args: &Args) -> Resul
     requires judged { judged i.now args.now ≡ Ok tt }
     ensures { IfOk result (λ results. results ≡ spec.results_of (state_of m.now) i.now args.now) }
 {
-    let image = image_bytes(alloc, i)?;
-    let image_end = BASE + image.len() as u32;
+    let image_end = BASE + image_length(i);
     let args = args.as_slice();
     is_small(i, args);
     let mut results = List::new(alloc);
@@ -81,7 +80,7 @@ fn array_at(
     requires few { length args.now ≤ 8 }
     requires small { total_size args.now ≤ array_limit }
     requires near { image_end ≤ 2000000 }
-    ensures { IfOk result (λ array. array ≡ spec.array_at mem.now (aligned (end_of image_end (take p args.now))) (slice_get args.now p)) }
+    ensures { IfOk result (λ array. array ≡ spec.array_at mem.now (loading.aligned (loading.end_of image_end (take p args.now))) (slice_get args.now p)) }
 {
     if p < args.len() {
         array_in_place(alloc, mem, image_end, args, p)
@@ -102,9 +101,9 @@ fn array_in_place(
     requires few { length args.now ≤ 8 }
     requires small { total_size args.now ≤ array_limit }
     requires near { image_end ≤ 2000000 }
-    ensures { IfOk result (λ array. array ≡ spec.array_at mem.now (aligned (end_of image_end (take p args.now))) (slice_get args.now p)) }
+    ensures { IfOk result (λ array. array ≡ spec.array_at mem.now (loading.aligned (loading.end_of image_end (take p args.now))) (slice_get args.now p)) }
 {
-    let place = end_of(image_end, &args[..p]).next_multiple_of(16);
+    let place = aligned(end_of(image_end, &args[..p]));
     read_array(alloc, mem, place, &args[p])
 }
 

@@ -90,7 +90,7 @@ pub fn store_to(size: Size) -> Instr
 
 /// A jump so many instructions forward.
 pub fn jump(count: u32) -> Instr
-    requires { count < 500000 }
+    requires { count < 262144 }
     ensures { word_of result ≡ word_of (spec.jump count) }
 {
     Instr::Jal {
@@ -101,7 +101,7 @@ pub fn jump(count: u32) -> Instr
 
 /// A jump so many instructions back.
 pub fn jump_back(count: u32) -> Instr
-    requires few { count < 500000 }
+    requires few { count < 262144 }
     requires some { 0 < count }
     ensures { word_of result ≡ word_of (spec.jump_back count) }
 {

@@ -1,4 +1,4 @@
-use Rattle.run_setup.proofs.Places.{image_small}
+use Rattle.image_layout.proofs.laws.Length.{image_small}
 use Rattle.run_setup.proofs.loading.image_bytes.Goals as goal
 
 pub returns-clause-small : goal.returns-clause-small

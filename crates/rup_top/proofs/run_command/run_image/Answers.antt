@@ -1,5 +1,5 @@
 use Rattle.std.proofs.Common.{ap, length, arith}
-use Rattle.run_setup.proofs.Places.{params_most}
+use Rattle.image_layout.proofs.laws.Length.{params_most}
 use Rattle.run_setup.specs.Loading.{loaded}
 use Rattle.rup_top.specs.Script.{run_verdict}
 use Rattle.rup_top.proofs.Scripts.{taken_stops}

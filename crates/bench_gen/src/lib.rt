@@ -8,3 +8,6 @@ mod terms;
 
 pub use arguments::args_from;
 pub use generated::model_from;
+
+#[cfg(test)]
+mod tests;

@@ -33,16 +33,18 @@ module _ (facts : List LinearForm) (t : ℕ × ℤ) where
 
 module _ (attempt : Entry → Option (List Entry)) where
   -- the newest fact that fits gives something
-  pub first_gives : (m : ℕ) (fit older more : List Entry) (e : Entry) (found : List Entry) → 0 < m → fit ≡ e ∷ older
-      → attempt e ≡ Some found → Some found ≡ first_of attempt (take m fit ++ more)
-  first_gives zero fit older more e found some newest is = absurd (omega arith)
-  first_gives (suc m) fit older more e found some newest is = rw (newest, is) refl
+  pub first_gives : (m : ℕ) (fit older more : List Entry) (e : Entry) (o : Option (List Entry)) (found : List Entry) → 0 < m
+      → fit ≡ e ∷ older → o ≡ attempt e → o ≡ Some found → Some found ≡ first_of attempt (take m fit ++ more)
+  first_gives zero fit older more e o found some newest tried gives = absurd (omega arith)
+  first_gives (suc m) fit older more e o found some newest tried gives = rw (newest, ← tried, gives) refl
 
   -- the newest fact that fits gives nothing
-  pub first_fails : (m : ℕ) (fit older more : List Entry) (e : Entry) → 0 < m → fit ≡ e ∷ older
-      → attempt e ≡ None → first_of attempt (take (m - 1) older ++ more) ≡ first_of attempt (take m fit ++ more)
-  first_fails zero fit older more e some newest is = absurd (omega arith)
-  first_fails (suc m) fit older more e some newest is = let same : suc m - 1 ≡ m = omega arith in rw (same, newest, is) refl
+  pub first_fails : (m : ℕ) (fit older more : List Entry) (e : Entry) (o : Option (List Entry)) → 0 < m → fit ≡ e ∷ older
+      → o ≡ attempt e → o ≡ None → first_of attempt (take (m - 1) older ++ more) ≡ first_of attempt (take m fit ++ more)
+  first_fails zero fit older more e o some newest tried fails = absurd (omega arith)
+  first_fails (suc m) fit older more e o some newest tried fails =
+      let same : suc m - 1 ≡ m = omega arith in
+      rw (same, newest, ← tried, fails) refl
 
   -- no more facts are tried, and the symbol has no entry
   pub none_tried : (m : ℕ) (fit : List Entry) (o : Option Entry) → m ≡ 0 → None ≡ o

@@ -12,7 +12,7 @@ use Rattle.side_certs.specs.Closes.{greatest_multiplier, form_of, named, all_nam
 use Rattle.side_certs.proofs.laws.Coefficients.{coefficient_minus, coefficient_scaled}
 use Rattle.side_certs.proofs.laws.Limits.{both, and_parts}
 use Rattle.cert_search.specs.Limits.{entry_in_range, Limited}
-use Rattle.cert_search.specs.Search.{candidates, next_goal, beginning, first_of, by_least, entries, levels}
+use Rattle.cert_search.specs.Search.{candidates, next_goal, beginning, first_of, by_least, taken, entries, levels}
 use Rattle.cert_search.proofs.Ranges.{Fits, AllFit, candidates_fit}
 
 within_is : (f g : LinearForm) → within f ≡ Some g → f ≡ g
@@ -66,7 +66,8 @@ module _ (facts : List LinearForm) (tops : List ℕ) where
 
   -- the first candidate that gives something
   by_first : {P : Type 0} (attempt : Entry → Option (List Entry)) (es found : List Entry)
-      → ((e : Entry) → Fits facts tops e → attempt e ≡ Some found → P) → AllFit facts tops es → first_of attempt es ≡ Some found → P
+      → ((e : Entry) → Fits facts tops e → attempt e ≡ Some found → P) → AllFit facts tops es
+      → first_of attempt es ≡ Some found → P
   by_first {P = P} attempt [] found each all is = absurd (cc)
   by_first {P = P} attempt (e ∷ es) found each all is = by (attempt e) refl (by_first attempt es found each all.1) is where
     by : (o : Option (List Entry)) → attempt e ≡ o → (first_of attempt es ≡ Some found → P)
@@ -79,8 +80,8 @@ module _ (facts : List LinearForm) (tops : List ℕ) where
       → ((rest : LinearForm) (es : List Entry) → next rest ≡ Some es → Leads n rest es) → Fits facts tops e
       → beginning next (next_goal facts tops goal) e ≡ Some found → Leads (suc n) goal found
   entry_leads n goal next e found each fits is = by_form (form_of facts tops e.kind e.number) refl is where
-    by_more : (f rest : LinearForm) → named facts tops e ≡ Some f → within (less goal e f) ≡ Some rest → (o : Option (List Entry))
-        → next rest ≡ o → option_map (λ es. e ∷ es) o ≡ Some found → Leads (suc n) goal found
+    by_more : (f rest : LinearForm) → named facts tops e ≡ Some f → within (less goal e f) ≡ Some rest
+        → (o : Option (List Entry)) → next rest ≡ o → option_map (λ es. e ∷ es) o ≡ Some found → Leads (suc n) goal found
     by_more f rest names w None p q = absurd (cc)
     by_more f rest names w (Some es) p q =
         let same : e ∷ es ≡ found = cc in
@@ -110,8 +111,7 @@ module _ (facts : List LinearForm) (tops : List ℕ) where
   leads (suc n) goal es is = by (leads n) goal.terms refl is where
     by : ((rest : LinearForm) (more : List Entry) → entries facts tops n rest ≡ Some more → Leads n rest more)
         → (ts : List (ℕ × ℤ)) → goal.terms ≡ ts
-        → by_least (λ t. first_of (beginning (entries facts tops n) (next_goal facts tops goal)) (candidates facts tops t)) goal.constant ts ≡ Some es
-        → Leads (suc n) goal es
+        → by_least (taken (entries facts tops n) facts tops goal) goal.constant ts ≡ Some es → Leads (suc n) goal es
     by next [] p q = by_sign (suc n) goal es p q
     by next (t ∷ ts) p q =
         by_first (beginning (entries facts tops n) (next_goal facts tops goal)) (candidates facts tops t) es

@@ -4,8 +4,8 @@ use Rattle.std.proofs.Common.{List, [], ◌∷◌, ◌++◌, take, Option, Some,
 use Rattle.std.specs.Prelude.{slice_get}
 use Rattle.side_certs.specs.declared.certificate.Entry.{Entry}
 use Rattle.side_certs.specs.LinearForm.{LinearForm, coefficient}
-use Rattle.cert_search.specs.Search.{quotient, entry, fact_entry, fitting, at_most_one, candidates}
-use Rattle.cert_search.specs.Search.{first_of, by_least, entries, beginning, next_goal}
+use Rattle.cert_search.specs.Search.{quotient, entry, fact_entry, fitting, at_most_one}
+use Rattle.cert_search.specs.Search.{first_of, by_least, entries, taken}
 
 module _ (facts : List LinearForm) (t : ℕ × ℤ) where
   fact_entry_is : (i : ℕ) (f : LinearForm) → slice_get facts i ≡ Some f
@@ -61,11 +61,10 @@ module _ (attempt : Entry → Option (List Entry)) where
 pub by_candidates : (facts : List LinearForm) (tops : List ℕ) (n : ℕ) (goal : LinearForm) (t : ℕ × ℤ)
     → (n ≡ 0 → ⊥) → slice_get goal.terms 0 ≡ Some t
     → entries facts tops n goal
-    ≡ first_of (beginning (entries facts tops (n - 1)) (next_goal facts tops goal)) (candidates facts tops t)
+    ≡ taken (entries facts tops (n - 1)) facts tops goal t
 by_candidates facts tops zero goal t some is = absurd (some refl)
 by_candidates facts tops (suc n) goal t some is = let same : suc n - 1 ≡ n = omega arith in rw same (first (goal.terms) is) where
   first : (ts : List (ℕ × ℤ)) → slice_get ts 0 ≡ Some t
-      → by_least (λ u. first_of (beginning (entries facts tops n) (next_goal facts tops goal)) (candidates facts tops u)) goal.constant ts
-      ≡ first_of (beginning (entries facts tops n) (next_goal facts tops goal)) (candidates facts tops t)
+      → by_least (taken (entries facts tops n) facts tops goal) goal.constant ts ≡ taken (entries facts tops n) facts tops goal t
   first [] none = absurd (cc)
   first (u ∷ us) one = let u_is : u ≡ t = cc in rw u_is refl

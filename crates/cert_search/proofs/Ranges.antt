@@ -86,7 +86,8 @@ module _ (facts : List LinearForm) (tops : List ℕ) where
     by_entries None None each others = tt
 
     by_top : (o : Option ℕ) → slice_get tops t.0 ≡ o
-        → AllFit (at_most_one (option_and_then (λ top. option_or (entry 1 t.0 (multiplier t.1)) (entry 2 t.0 (multiplier (neg_ℤ t.1)))) o))
+        → AllFit (at_most_one (option_and_then
+        (λ top. option_or (entry 1 t.0 (multiplier t.1)) (entry 2 t.0 (multiplier (neg_ℤ t.1)))) o))
     by_top None p = tt
     by_top (Some top) p =
         let there : nat_lt t.0 (length tops) ≡ true = lt-ltb t.0 (length tops) (slice_get_within tops t.0 top p) in

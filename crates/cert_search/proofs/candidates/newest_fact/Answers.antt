@@ -10,8 +10,9 @@ returns-in-Some c =
     let i = c.facts.older - 1 in
     let within = c.facts.invariant.within in
     let below : i < length facts = omega (arith, c.facts-test.true, within, c.requires.within) in
-    let at : slice_get facts i ≡ Some c.index-facts-older.result = slice_get_read facts (length facts) i _ refl below c.index-facts-older.is in
-    let fit = fits facts c.args.term c.facts.older c.index-facts-older.result c.in-Some.mult (omega arith) at c.in-Some.ensures in
+    let fact = c.index-facts-older in
+    let at : slice_get facts i ≡ Some fact.result = slice_get_read facts (length facts) i _ refl below fact.is in
+    let fit = fits facts c.args.term c.facts.older fact.result c.in-Some.mult (omega arith) at c.in-Some.ensures in
     (omega (arith, c.facts-test.true, within), sym c.facts.invariant.passed ∙ fit)
 
 pub facts-preserved : goal.facts-preserved
@@ -20,8 +21,9 @@ facts-preserved c =
     let i = c.facts.older - 1 in
     let within = c.facts.invariant.within in
     let below : i < length facts = omega (arith, c.facts-test.true, within, c.requires.within) in
-    let at : slice_get facts i ≡ Some c.index-facts-older.result = slice_get_read facts (length facts) i _ refl below c.index-facts-older.is in
-    let fit = fits_not facts c.args.term c.facts.older c.index-facts-older.result (omega arith) at c.in_default.ensures in
+    let fact = c.index-facts-older in
+    let at : slice_get facts i ≡ Some fact.result = slice_get_read facts (length facts) i _ refl below fact.is in
+    let fit = fits_not facts c.args.term c.facts.older fact.result (omega arith) at c.in_default.ensures in
     record {
       within = omega (arith, c.facts-test.true, within);
       passed = fit ∙ c.facts.invariant.passed;

@@ -17,7 +17,8 @@ invariant-first_candidate-facts l = record {
   within : l.older ≤ length l.facts;
   tried :
       let attempt = spec.beginning (spec.entries l.facts l.tops l.levels) (spec.next_goal l.facts l.tops l.goal) in
-      spec.first_of attempt (take l.tries (spec.fitting l.facts l.term l.older) ++ spec.at_most_one (spec.symbol_entry l.tops l.term))
+      let symbol = spec.at_most_one (spec.symbol_entry l.tops l.term) in
+      spec.first_of attempt (take l.tries (spec.fitting l.facts l.term l.older) ++ symbol)
       ≡ spec.first_of attempt (spec.candidates l.facts l.tops l.term);
 }
 

@@ -6,13 +6,14 @@ use Rattle.std.specs.List.{list_all}
 use Rattle.std.specs.Int.Signed.{le_z}
 use Rattle.std.proofs.lemmas.Int.{ints}
 use Rattle.std.proofs.lemmas.Bool.{le-leb}
+use Rattle.side_certs.specs.declared.certificate.Cert.{Cert}
 use Rattle.side_certs.specs.declared.certificate.Entry.{Entry}
 use Rattle.side_certs.specs.LinearForm.{LinearForm, coefficient, is_within, within, minus, times}
 use Rattle.side_certs.specs.Closes.{greatest_multiplier, form_of, named, all_named, summed, number_at, Closes}
 use Rattle.side_certs.proofs.laws.Coefficients.{coefficient_minus, coefficient_scaled}
 use Rattle.side_certs.proofs.laws.Limits.{both, and_parts}
 use Rattle.cert_search.specs.Limits.{entry_in_range, Limited}
-use Rattle.cert_search.specs.Search.{candidates, next_goal, beginning, first_of, by_least, taken, entries, levels}
+use Rattle.cert_search.specs.Search.{candidates, next_goal, beginning, first_of, by_least, taken, entries, found, levels}
 use Rattle.cert_search.proofs.Ranges.{Fits, AllFit, candidates_fit}
 
 within_is : (f g : LinearForm) → within f ≡ Some g → f ≡ g
@@ -118,14 +119,8 @@ module _ (facts : List LinearForm) (tops : List ℕ) where
         (λ e fits gives. entry_leads n goal (entries facts tops n) e es next fits gives)
         (candidates_fit facts tops t) q
 
-  pub limited : (goal : LinearForm) (es : List Entry) → entries facts tops levels goal ≡ Some es
-      → Limited facts tops (record { d = 1; entries = es })
-  limited goal es is = let l = leads levels goal es is in record { once = refl; few = l.few; ranges = l.ranges }
-
-  pub closing : (goal : LinearForm) (es : List Entry) → entries facts tops levels goal ≡ Some es
-      → Closes facts tops goal (record { d = 1; entries = es })
-  closing goal es is =
-      let l = leads levels goal es is in
+  closing : (goal : LinearForm) (es : List Entry) → Leads levels goal es → Closes facts tops goal (record { d = 1; entries = es })
+  closing goal es l =
       let few : nat_le (length es) 32 ≡ true = le-leb _ _ (omega (arith, l.few)) in
       record {
         range = few;
@@ -133,3 +128,16 @@ module _ (facts : List LinearForm) (tops : List ℕ) where
         number = λ s. let n = l.number s in omega (arith, ints, n);
         enough = let e = l.enough in omega (arith, ints, e);
       }
+
+  -- what the search finds closes the goal, and is limited
+  pub found_leads : (goal : LinearForm) (certificate : Cert) → found facts tops goal ≡ Some certificate
+      → Closes facts tops goal certificate × Limited facts tops certificate
+  found_leads goal certificate is = by (entries facts tops levels goal) refl is where
+    by : (o : Option (List Entry)) → entries facts tops levels goal ≡ o
+        → option_map (λ es. record { d = 1; entries = es }) o ≡ Some certificate
+        → Closes facts tops goal certificate × Limited facts tops certificate
+    by None p q = absurd (cc)
+    by (Some es) p q =
+        let same : record { d = 1; entries = es } ≡ certificate = cc in
+        let l = leads levels goal es p in
+        rw (← same) (closing goal es l, record { once = refl; few = l.few; ranges = l.ranges })

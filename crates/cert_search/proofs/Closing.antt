@@ -119,7 +119,8 @@ module _ (facts : List LinearForm) (tops : List ℕ) where
         (λ e fits gives. entry_leads n goal (entries facts tops n) e es next fits gives)
         (candidates_fit facts tops t) q
 
-  closing : (goal : LinearForm) (es : List Entry) → Leads levels goal es → Closes facts tops goal (record { d = 1; entries = es })
+  closing : (goal : LinearForm) (es : List Entry) → Leads levels goal es
+      → Closes facts tops goal (record { d = 1; entries = es })
   closing goal es l =
       let few : nat_le (length es) 32 ≡ true = le-leb _ _ (omega (arith, l.few)) in
       record {

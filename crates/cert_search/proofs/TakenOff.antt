@@ -11,14 +11,16 @@ module _ (goal f : LinearForm) (m : ℕ) where
   abbrev multiple : LinearForm
   multiple = times (pos m) f
 
-  pub number_less : (place : Option ℕ) → number_at place (minus goal multiple) ≡ number_at place goal +ℤ neg_ℤ (pos m *ℤ number_at place f)
+  pub number_less : (place : Option ℕ)
+      → number_at place (minus goal multiple) ≡ number_at place goal +ℤ neg_ℤ (pos m *ℤ number_at place f)
   number_less place =
       let whole = number_plus place goal (times (negsuc 0) multiple) in
       let negated = number_times place (negsuc 0) multiple in
       let product = number_times place (pos m) f in
       omega (arith, ints, whole, negated, product)
 
-  pub next_less : (least : ℕ) (a b : Option ℕ) → IsNext goal least a → IsNext f least b → IsNext (minus goal multiple) least (lesser a b)
+  pub next_less : (least : ℕ) (a b : Option ℕ) → IsNext goal least a → IsNext f least b
+      → IsNext (minus goal multiple) least (lesser a b)
   next_less least a b one two =
       let negated = next_times (negsuc 0) multiple least b (next_times (pos m) f least b two) in
       next_plus goal (times (negsuc 0) multiple) least a b one negated

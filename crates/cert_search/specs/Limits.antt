@@ -13,7 +13,7 @@ entry_in_range facts tops e =
     (nat_le 1 e.mult && nat_le e.mult greatest_multiplier)
     && (if nat_eq e.kind 0 then nat_lt e.number (length facts) else (nat_le e.kind 2 && nat_lt e.number (length tops)))
 
--- the goal is taken once, and few entries are
+-- the goal is taken once, and at most four entries are, each in its range
 pub record Limited (facts : List LinearForm) (tops : List ℕ) (certificate : Cert) : Type 0 where
   pub once : certificate.d ≡ 1
   pub few : length certificate.entries ≤ levels
@@ -21,5 +21,5 @@ pub record Limited (facts : List LinearForm) (tops : List ℕ) (certificate : Ce
 
 -- a certificate that the search finds closes its goal, and is limited
 abbrev pub FoundCloses : Type 0
-FoundCloses = (facts : List LinearForm) → (tops : List ℕ) → (goal : LinearForm) → (certificate : Cert) → found facts tops goal ≡ Some certificate
-    → Closes facts tops goal certificate × Limited facts tops certificate
+FoundCloses = (facts : List LinearForm) → (tops : List ℕ) → (goal : LinearForm) → (certificate : Cert)
+    → found facts tops goal ≡ Some certificate → Closes facts tops goal certificate × Limited facts tops certificate

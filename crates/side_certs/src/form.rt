@@ -143,7 +143,7 @@ impl Form {
     }
 
     /// The constant, or the coefficient of a symbol.
-    pub(crate) fn number_at(&self, place: Option<u32>) -> i128
+    pub fn number_at(&self, place: Option<u32>) -> i128
         ensures number { result ≡ number_at place self.now }
         ensures near { Near (2 ^ 40) result }
     {
@@ -153,8 +153,8 @@ impl Form {
         }
     }
 
-    /// The first symbol from `least` on.
-    pub(crate) fn symbol_from(&self, least: u64) -> Option<u32>
+    /// The first symbol from `least` on, if there is one.
+    pub fn symbol_from(&self, least: u64) -> Option<u32>
         ensures next { IsNext self.now least result }
         ensures rising { linear.rises_from 0 self.now.terms ≡ true }
     {

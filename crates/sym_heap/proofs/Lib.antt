@@ -5,4 +5,5 @@ mod Firsts
 mod Fitting
 mod Formed
 mod Limits
+mod Narrow
 mod Starting

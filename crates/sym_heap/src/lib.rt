@@ -11,6 +11,7 @@ mod sides;
 pub use context::Ctx;
 pub use laws::start_fits;
 pub use parts::{Clause, Held};
+pub use sides::{NameForms, difference};
 
 #[cfg(test)]
 mod tests;

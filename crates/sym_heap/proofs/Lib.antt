@@ -6,4 +6,5 @@ mod Fitting
 mod Formed
 mod Limits
 mod Narrow
+mod Scoping
 mod Starting

@@ -19,7 +19,8 @@ use Rattle.model_syntax.specs.Types as types
 use Rattle.model_syntax.specs.Value as value
 use Rattle.sym_heap.specs.Arrival.{HasArray, HasLength, HasArgument, HasArguments, numbers_of}
 use Rattle.sym_heap.specs.Context.{Context, top_of}
-use Rattle.sym_heap.specs.Fits.{Bytes, Locals, Call, Known, ClauseFits, array_bytes, entry_numbers}
+use Rattle.rv_memory.specs.Ranges.{Bytes}
+use Rattle.sym_heap.specs.Fits.{Locals, Call, Known, ClauseFits, array_bytes, entry_numbers}
 use Rattle.sym_heap.specs.Start.{next_local, with_argument, clause, with_pointer, with_array, with_param, with_params}
 use Rattle.sym_heap.proofs.Arriving.{Arrived, argument_arrived, pointer_arrived, reserved_arrived}
 use Rattle.sym_heap.proofs.Declared.{Answered, answered, declared, Declared, declared_parts}

@@ -13,7 +13,8 @@ use Rattle.model_syntax.specs.Scope.{Scope, look_up, bind}
 use Rattle.sym_heap.specs.declared.parts.Held.{Held}
 use Rattle.sym_heap.specs.declared.parts.Clause.{Clause}
 use Rattle.sym_heap.specs.Context.{Context, held, top_of, with_reserved}
-use Rattle.sym_heap.specs.Fits.{Bytes, Locals, Call, Known, ScalarFits, ClauseFits}
+use Rattle.rv_memory.specs.Ranges.{Bytes}
+use Rattle.sym_heap.specs.Fits.{Locals, Call, Known, ScalarFits, ClauseFits}
 use Rattle.sym_heap.specs.Start.{next_local, with_argument, clause, with_pointer}
 use Rattle.sym_heap.proofs.Formed.{look_bound}
 use Rattle.sym_heap.proofs.Starting.{after_argument, after_pointer}

@@ -1,5 +1,5 @@
 -- The context at the start fits: the arguments have arrived, their locals are reserved, and each requirement holds.
-use Rattle.std.proofs.Common.{◌≡◌, refl, sym, ◌∙◌, ap, subst, arith, ℕ, zero, suc, ◌+◌, ◌*◌, ◌<◌, ◌≤◌, ◌||◌, inl, inr, ◌⊎◌, Bool, true, false, List, [], ◌∷◌, ◌++◌, length, map, Option, Some, None, Result, Ok, Err, ℤ, pos, negsuc, ◌+ℤ◌, ◌*ℤ◌, ◌≤ℤ◌, slice_get, nat_eq, nat_lt, if◌then◌else◌}
+use Rattle.std.proofs.Common.{◌≡◌, refl, sym, ◌∙◌, ap, subst, arith, ℕ, zero, suc, ◌+◌, ◌*◌, ◌<◌, ◌≤◌, ◌||◌, inl, inr, ◌⊎◌, Bool, true, false, List, [], ◌∷◌, ◌++◌, length, map, Option, Some, None, Result, Ok, Err, ℤ, pos, negsuc, neg_ℤ, ◌+ℤ◌, ◌*ℤ◌, ◌≤ℤ◌, slice_get, nat_eq, nat_lt, if◌then◌else◌}
 use Rattle.std.specs.List.{find}
 use Rattle.std.proofs.lemmas.Bool.{leb-true}
 use Rattle.std.proofs.lemmas.Bool.Decides.{nat_tests}
@@ -35,16 +35,17 @@ use Rattle.sym_heap.specs.declared.parts.Held.{Held}
 use Rattle.sym_heap.specs.declared.parts.Clause.{Clause}
 use Rattle.sym_heap.specs.Arrival.{HasArguments, AreApart, numbers_of, StartFits}
 use Rattle.sym_heap.specs.Context.{Context, is_scalar, is_clause, has}
-use Rattle.sym_heap.specs.Fits.{Bytes, Locals, call_of, Known, IsConsistent, ScalarFits, ClauseFits, FitsBy}
+use Rattle.rv_memory.specs.Ranges.{Bytes}
+use Rattle.sym_heap.specs.Fits.{Locals, call_of, Known, IsConsistent, ScalarFits, ClauseFits, FitsBy}
 use Rattle.sym_heap.specs.Sides.{form_in, side, side_step, difference}
 use Rattle.sym_heap.specs.Start.{empty, next_local, clause, with_array, with_param, with_params, start}
 use Rattle.sym_heap.proofs.Arriving.{at_end, Arrived}
 use Rattle.sym_heap.proofs.Arrivals.{AllHere, params_arrived}
-use Rattle.sym_heap.proofs.Coefficients.{Below, below_merge, below_times}
+use Rattle.side_certs.proofs.laws.Coefficients.{Below, below_merge, below_times}
 use Rattle.sym_heap.proofs.Declared.{Answered, answered, at_place, start_scope}
 use Rattle.sym_heap.proofs.Formed.{Found, Knows, start_kept}
 use Rattle.sym_heap.proofs.Starting.{params_facts}
-use Rattle.sym_heap.proofs.Values.{value_plus, value_times, value_minus}
+use Rattle.side_certs.proofs.laws.Values.{value_plus, value_times, value_minus}
 
 -- Reserved locals.
 
@@ -151,7 +152,7 @@ module _ (c : Scope) (hs : List Held) (knows : Knows c hs) (env : Env) (numbers 
       (omega (arith, ints, sum, left, right), below_merge n _ _ one.1 two.1)
   step_valued (l.Scale k a) names =
       let one = a.1 names in
-      let product = value_times numbers k (side (form_in hs) a.0) in
+      let product = value_times numbers (pos k) (side (form_in hs) a.0) in
       (product ∙ times_is k (value.whole a.0 env) _ one.0, below_times n (pos k) _ one.1)
     where
       times_is : (k m : ℕ) (z : ℤ) → z ≡ pos m → (pos k *ℤ z) ≡ pos (k * m)
@@ -182,8 +183,8 @@ module _ (c : Scope) (hs : List Held) (knows : Knows c hs) (env : Env) (numbers 
         below_known n _ (below_merge n _ _ high.1 (below_times n (negsuc 0) _ low.1)),
       )
     where
-      not_negative : (z x y : ℤ) (a b : ℕ) → z ≡ x +ℤ (negsuc 0 *ℤ y) → x ≡ pos a → y ≡ pos b → b ≤ a → pos 0 ≤ℤ z
-      not_negative z x y a b at is_x is_y less = let at_numbers : z ≡ pos a +ℤ (negsuc 0 *ℤ pos b) = rw (at, is_x, is_y) refl in omega (arith, ints, at_numbers, less)
+      not_negative : (z x y : ℤ) (a b : ℕ) → z ≡ x +ℤ neg_ℤ y → x ≡ pos a → y ≡ pos b → b ≤ a → pos 0 ≤ℤ z
+      not_negative z x y a b at is_x is_y less = let at_numbers : z ≡ pos a +ℤ neg_ℤ (pos b) = rw (at, is_x, is_y) refl in omega (arith, ints, at_numbers, less)
 
 -- the rule of a requirement, and that it holds
 facts_of : (c : Scope) (k : ℕ) (rs : List Le) → types.requirements k rs c ≡ Ok tt → (i : ℕ) (r : Le) → slice_get rs i ≡ Some r → types.fact r c ≡ Ok tt

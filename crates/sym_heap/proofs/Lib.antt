@@ -1,10 +1,10 @@
 mod Arrivals
 mod Arriving
-mod Coefficients
 mod Declared
 mod Firsts
 mod Fitting
 mod Formed
 mod Limits
+mod Narrow
+mod Scoping
 mod Starting
-mod Values

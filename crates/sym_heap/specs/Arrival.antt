@@ -10,7 +10,8 @@ use Rattle.model_syntax.specs.declared.program.Model.{Model}
 use Rattle.model_syntax.specs.Environment.{elements}
 use Rattle.model_syntax.specs.Types.{Well}
 use Rattle.model_syntax.specs.Value as value
-use Rattle.sym_heap.specs.Fits.{Bytes, Locals, Call, call_of, IsArray, array_bytes, Stands, Apart, range_of, FitsBy}
+use Rattle.rv_memory.specs.Ranges.{Bytes, Apart, Stands}
+use Rattle.sym_heap.specs.Fits.{Locals, Call, call_of, IsArray, array_bytes, range_of, FitsBy}
 use Rattle.sym_heap.specs.Start.{registers_of, start}
 
 -- a number of at most so much is in a local

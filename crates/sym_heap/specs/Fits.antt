@@ -1,11 +1,11 @@
 -- When a state fits a context: each symbol has a number such that locals, values and memory are what the context says.
-use Rattle.std.specs.Prelude.{◌≡◌, ◌≢◌, ℕ, ◌+◌, ◌%◌, ◌^◌, ◌<◌, ◌≤◌, true, false, List, [], ◌∷◌, length, Option, Some, None, slice_get, ℤ, pos}
+use Rattle.std.specs.Prelude.{◌≡◌, ◌≢◌, ℕ, ◌+◌, ◌%◌, ◌^◌, ◌<◌, ◌≤◌, true, false, List, [], ◌∷◌, length, map, Option, Some, None, slice_get, ℤ, pos}
 use Rattle.std.specs.List.{flat_map}
-use Rattle.std.specs.Ordering.{nat_cmp}
-use Rattle.std.specs.FinMap.{FinMap, get}
 use Rattle.std.specs.Int.{w32, to_le_bytes}
 use Rattle.rup_base.specs.declared.arg.Arg.{Arg}
 use Rattle.rup_base.specs.declared.arg.Arg.TheVariants as arg
+use Rattle.rup_base.specs.Gather.{all_true}
+use Rattle.rv_memory.specs.Ranges.{Bytes, Range, Apart, Stands}
 use Rattle.side_certs.specs.LinearForm.{LinearForm, value_at}
 use Rattle.side_certs.specs.Closes.{Holds}
 use Rattle.model_syntax.specs.declared.program.Len.TheVariants.{Named}
@@ -13,14 +13,11 @@ use Rattle.model_syntax.specs.declared.program.Param.{Param}
 use Rattle.model_syntax.specs.declared.program.Param.TheVariants as param
 use Rattle.model_syntax.specs.declared.program.Model.{Model}
 use Rattle.model_syntax.specs.Environment.{Env, value_of, elements}
+use Rattle.model_syntax.specs.Kinds.{is_byte, is_word}
 use Rattle.model_syntax.specs.Names.{Name, same}
 use Rattle.sym_heap.specs.declared.parts.Held.{Held}
 use Rattle.sym_heap.specs.declared.parts.Clause.{Clause}
 use Rattle.sym_heap.specs.Context.{Context, scalar, own, has, top_of}
-
--- bytes by their addresses
-abbrev pub Bytes : Type 0
-Bytes = FinMap nat_cmp ℕ
 
 -- the value of each local that was set
 abbrev pub Locals : Type 0
@@ -53,22 +50,6 @@ abbrev pub array_bytes : Option Arg → List ℕ
 array_bytes (Some (arg.Bytes bytes)) = bytes
 array_bytes (Some (arg.Words words)) = flat_map (to_le_bytes w32) words
 array_bytes v = []
-
--- the bytes stand in the memory from an address on
-abbrev pub Stands : Bytes → ℕ → List ℕ → Type 0
-Stands mem start bytes = (k b : ℕ) → slice_get bytes k ≡ Some b → get mem (start + k) ≡ Some b
-
--- so many addresses from a first one on
-pub record Range : Type 0 where
-  pub start : ℕ
-  pub size : ℕ
-
-abbrev pub Within : Range → ℕ → Type 0
-Within r address = (r.start ≤ address) × (address < r.start + r.size)
-
--- no address is in both; an empty range overlaps nothing
-abbrev pub Apart : Range → Range → Type 0
-Apart r q = (address : ℕ) → Within r address → Within q address → ⊥
 
 -- the range of the array of a parameter
 abbrev pub range_of : Call → ℕ → Range
@@ -104,12 +85,12 @@ pub record ScalarFits (numbers : ℕ → ℕ) (h : Held) (found : Option Arg) (l
   pub form : value_at numbers h.form ≡ pos number
   pub local : locals h.local ≡ Some number
 
--- an array of elements of this size
+-- an array of elements of this size, each of which is a byte or a word
 abbrev pub IsArray : ℕ → Option Arg → Type 0
 IsArray size None = ⊥
 IsArray size (Some (arg.Word n)) = ⊥
-IsArray size (Some (arg.Bytes ns)) = size ≡ 1
-IsArray size (Some (arg.Words ns)) = size ≡ 4
+IsArray size (Some (arg.Bytes ns)) = (size ≡ 1) × (all_true (map is_byte ns) ≡ true)
+IsArray size (Some (arg.Words ns)) = (size ≡ 4) × (all_true (map is_word ns) ≡ true)
 
 -- the value of a clause's name is an array of its type and length, which stands where the parameter's array did
 pub record ClauseFits (call : Call) (numbers : ℕ → ℕ) (k : Clause) (found : Option Arg) (mem : Bytes) (locals : Locals) : Type 0 where

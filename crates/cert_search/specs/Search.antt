@@ -62,7 +62,8 @@ candidates facts tops t = take most_facts (fitting facts t (length facts)) ++ at
 
 -- what the entry leaves of the goal: the goal less the entry's form, times its multiplier, if that passes no limit of forms
 abbrev pub next_goal : List LinearForm → List ℕ → LinearForm → Entry → Option LinearForm
-next_goal facts tops goal e = option_and_then (λ f. within (minus goal (times (pos e.mult) f))) (form_of facts tops e.kind e.number)
+next_goal facts tops goal e =
+    option_and_then (λ f. within (minus goal (times (pos e.mult) f))) (form_of facts tops e.kind e.number)
 
 -- the entry, and then those by which what it leaves of the goal closes
 abbrev pub beginning : (LinearForm → Option (List Entry)) → (Entry → Option LinearForm) → Entry → Option (List Entry)
@@ -73,6 +74,10 @@ abbrev pub first_of : (Entry → Option (List Entry)) → List Entry → Option 
 first_of attempt [] = None
 first_of attempt (e ∷ es) = option_or (attempt e) (first_of attempt es)
 
+-- the entries that the first candidate for the term begins with which leaves a goal that closes
+abbrev pub taken : (LinearForm → Option (List Entry)) → List LinearForm → List ℕ → LinearForm → ℕ × ℤ → Option (List Entry)
+taken next facts tops goal t = first_of (beginning next (next_goal facts tops goal)) (candidates facts tops t)
+
 -- a goal without terms closes with no entry where its constant is at least 0
 abbrev pub by_least : (ℕ × ℤ → Option (List Entry)) → ℤ → List (ℕ × ℤ) → Option (List Entry)
 by_least next constant [] = if le_z (pos 0) constant then Some [] else None
@@ -81,11 +86,7 @@ by_least next constant (t ∷ ts) = next t
 -- the entries by which a goal closes, where there are at most so many
 abbrev pub entries : List LinearForm → List ℕ → ℕ → LinearForm → Option (List Entry)
 entries facts tops zero goal = by_least (λ t. None) goal.constant goal.terms
-entries facts tops (suc n) goal =
-    by_least
-    (λ t. first_of (beginning (entries facts tops n) (next_goal facts tops goal)) (candidates facts tops t))
-    goal.constant
-    goal.terms
+entries facts tops (suc n) goal = by_least (taken (entries facts tops n) facts tops goal) goal.constant goal.terms
 
 -- the certificate that a goal gets
 abbrev pub found : List LinearForm → List ℕ → LinearForm → Option Cert

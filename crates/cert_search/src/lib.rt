@@ -4,8 +4,10 @@
 
 mod candidates;
 mod difference;
+pub mod laws;
 mod search;
 
+pub use laws::found_closes;
 pub use search::find;
 
 #[cfg(test)]

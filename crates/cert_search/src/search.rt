@@ -77,9 +77,12 @@ fn first_candidate(
     term: (u32, i64),
 ) -> Result<Option<List<Entry>>, NoMemory>
     requires { length facts.now < 2 ^ 32 }
-    ensures { IfOk result (λ entries. entries ≡ spec.first_of
-        (spec.beginning (spec.entries facts.now tops.now levels) (spec.next_goal facts.now tops.now goal.now))
-        (spec.candidates facts.now tops.now term)) }
+    ensures { IfOk result (λ entries. entries ≡ spec.taken
+        (spec.entries facts.now tops.now levels)
+        facts.now
+        tops.now
+        goal.now
+        term) }
 {
     let mut older = facts.len();
     let mut tries = MOST_FACTS;

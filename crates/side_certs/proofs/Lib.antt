@@ -1,3 +1,2 @@
 mod Cancelling
-mod Summing
 pub mod Terms

@@ -1,4 +1,5 @@
 pub mod Coefficients
+pub mod Combinations
 pub mod Known
 pub mod Limits
 pub mod Products

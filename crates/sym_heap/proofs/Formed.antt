@@ -33,7 +33,7 @@ use Rattle.model_syntax.specs.Scope.{Scope, look_up, bind, scalar_in}
 use Rattle.model_syntax.specs.Types as types
 use Rattle.sym_heap.specs.declared.parts.Held.{Held}
 use Rattle.sym_heap.specs.Context.{Context, held, is_scalar}
-use Rattle.sym_heap.specs.Sides.{form_in, side, side_step, limited_side, limited_step, Formed, AllFormed}
+use Rattle.sym_heap.specs.Sides.{form_in, side, side_step, Formed, AllFormed}
 use Rattle.sym_heap.specs.Start.{empty, next_local, with_argument, with_pointer, with_array, with_param, with_params}
 use Rattle.side_certs.proofs.laws.Coefficients.{coefficient_merge, coefficient_times, below_merge, below_times, keeps_limits}
 use Rattle.sym_heap.proofs.Declared.{Answered, answered, at_place, declared, Declared, declared_parts, StartScope, start_scope, few_registers}
@@ -183,21 +183,15 @@ module _ (c : Scope) (hs : List Held) (kept : Kept c hs) (few : length hs ≤ 8)
   abbrev Like : Linear → LinearForm → Type 0
   Like = limits.Like (place 0 hs) (Found hs) (apart 0 hs)
 
-  abbrev Sided : Linear → LinearForm → Option LinearForm → Type 0
-  Sided = limits.Sided (place 0 hs) (Found hs) (apart 0 hs)
-
   -- a side whose names are known scalars, and that has a linear form
-  abbrev Claim : Result Linear TypeWhy → LinearForm → Option LinearForm → (Scope → types.Rule) → Type 0
-  Claim found f o names = names c ≡ Ok tt → (p : Linear) → found ≡ Ok p → Sided p f o
+  abbrev Claim : Result Linear TypeWhy → LinearForm → (Scope → types.Rule) → Type 0
+  Claim found f names = names c ≡ Ok tt → (p : Linear) → found ≡ Ok p → Like p f
 
-  const_sided : (n : ℕ) → Sided (model.form n []) (constant (pos n)) (Some (constant (pos n)))
-  const_sided n = record {
-    like = record { good = record { all = tt; once = λ s. refl }; constant_is = refl; coefficient_is = λ s. refl; rises = refl; below = tt };
-    limited = refl;
-  }
+  const_like : (n : ℕ) → Like (model.form n []) (constant (pos n))
+  const_like n = record { good = record { all = tt; once = λ s. refl }; constant_is = refl; coefficient_is = λ s. refl; rises = refl; below = tt }
 
-  var_sided : (x : Name) → Found hs x → Sided (model.form 0 (model.term x 1 ∷ [])) (form_in hs x) (Some (form_in hs x))
-  var_sided x f =
+  var_like : (x : Name) → Found hs x → Like (model.form 0 (model.term x 1 ∷ [])) (form_in hs x)
+  var_like x f =
       let like : Like (model.form 0 (model.term x 1 ∷ [])) (symbol (place 0 hs x)) = record {
         good = record { all = (f, omega arith, tt); once = λ s. one (nat_eq (place 0 hs x) s) };
         constant_is = refl;
@@ -205,7 +199,7 @@ module _ (c : Scope) (hs : List Held) (kept : Kept c hs) (few : length hs ≤ 8)
         rises = rises_made 0 (place 0 hs x, pos 1) [] (omega arith) refl refl;
         below = (let less = inside 0 hs x f in omega (arith, less, few), tt);
       } in
-      subst (λ (g : LinearForm). Sided (model.form 0 (model.term x 1 ∷ [])) g (Some g)) (sym (form_is 0 hs x kept.numbered f)) (record { like = like; limited = refl })
+      subst (λ (g : LinearForm). Like (model.form 0 (model.term x 1 ∷ [])) g) (sym (form_is 0 hs x kept.numbered f)) like
     where
       one : (b : Bool) → (if b then 1 else 0) + 0 ≡ (if b then 1 else 0)
       one true = refl
@@ -221,7 +215,7 @@ module _ (c : Scope) (hs : List Held) (kept : Kept c hs) (few : length hs ≤ 8)
   scalar_known x (Some (Many t n)) at is = absurd (let bad : ◌≡◌ {A = types.Rule} (Err why.NotScalar) (Ok tt) = is in cc)
 
   abbrev IsSided : Lin → Type 0
-  IsSided a = Claim (model.linear a) (side (form_in hs) a) (limited_side (form_in hs) a) (types.names_scalars a)
+  IsSided a = Claim (model.linear a) (side (form_in hs) a) (types.names_scalars a)
 
   abbrev Proved : Type 0
   Proved = (a : Lin) × IsSided a
@@ -232,31 +226,30 @@ module _ (c : Scope) (hs : List Held) (kept : Kept c hs) (few : length hs ≤ 8)
   abbrev StepSided : Lin-F Lin → Type 0
   StepSided y =
       Claim (model.linear_step (map-Lin Lin (Result Linear TypeWhy) model.linear y)) (side_step (form_in hs) (map-Lin Lin LinearForm (side (form_in hs)) y))
-      (limited_step (form_in hs) (map-Lin Lin (Option LinearForm) (limited_side (form_in hs)) y)) (types.names_step (map-Lin Lin (Scope → types.Rule) types.names_scalars y))
+      (types.names_step (map-Lin Lin (Scope → types.Rule) types.names_scalars y))
 
   step_sided : (y : Lin-F Proved) → StepSided (bare y)
-  step_sided (l.Const n) names p is = let one : model.form n [] ≡ p = cc in subst (λ (q : Linear). Sided q (constant (pos n)) (Some (constant (pos n)))) one (const_sided n)
+  step_sided (l.Const n) names p is = let one : model.form n [] ≡ p = cc in subst (λ (q : Linear). Like q (constant (pos n))) one (const_like n)
   step_sided (l.Var x) names p is =
       let one : model.form 0 (model.term x 1 ∷ []) ≡ p = cc in
-      subst (λ (q : Linear). Sided q (form_in hs x) (Some (form_in hs x))) one (var_sided x (scalar_known x (look_up c x) refl names))
+      subst (λ (q : Linear). Like q (form_in hs x)) one (var_like x (scalar_known x (look_up c x) refl names))
   step_sided (l.Sum a b) names p is =
       let both : Answered (types.names_scalars a.0 c) (λ u. types.names_scalars b.0 c) tt = answered _ _ tt names in
       let left : Answered (model.linear a.0) (λ x. model.linear b.0 >>= (λ y. model.plus x y)) p = answered _ _ p is in
       let right : Answered (model.linear b.0) (λ y. model.plus left.value y) p = answered _ _ p left.two in
-      limits.sum_sided (place 0 hs) (Found hs) (apart 0 hs) left.value right.value p _ _ _ _ (a.1 (unit_is (types.names_scalars a.0 c) both.value both.one) left.value left.one) (b.1 both.two right.value right.one) right.two
+      limits.sum_like (place 0 hs) (Found hs) (apart 0 hs) left.value right.value p _ _ (a.1 (unit_is (types.names_scalars a.0 c) both.value both.one) left.value left.one) (b.1 both.two right.value right.one) right.two
     where
       unit_is : (r : types.Rule) (u : Unit {0}) → r ≡ Ok u → r ≡ Ok tt
       unit_is r u e = e
   step_sided (l.Scale k a) names p is =
       let inner : Answered (model.linear a.0) (λ x. model.times k x) p = answered _ _ p is in
-      limits.times_sided (place 0 hs) (Found hs) (apart 0 hs) k inner.value p _ _ (a.1 names inner.value inner.one) inner.two
+      limits.times_like (place 0 hs) (Found hs) (apart 0 hs) k inner.value p _ (a.1 names inner.value inner.one) inner.two
 
   rolled : (y : Lin-F Lin) → StepSided y → IsSided (roll-Lin y)
   rolled y h =
       rw (
         fold-roll-Lin (Result Linear TypeWhy) model.linear_step y,
         fold-roll-Lin LinearForm (side_step (form_in hs)) y,
-        fold-roll-Lin (Option LinearForm) (limited_step (form_in hs)) y,
         fold-roll-Lin (Scope → types.Rule) types.names_step y,
       ) h
 
@@ -272,16 +265,10 @@ module _ (c : Scope) (hs : List Held) (kept : Kept c hs) (few : length hs ≤ 8)
       let whole : z ≡ pos a +ℤ (negsuc 0 *ℤ pos b) = rw (at, is_x, is_y) refl in
       le-leb _ _ (near_small z (2 ^ 40) (omega (arith, ints, whole, few_a, few_b)) (omega (arith, ints, whole, few_a, few_b)))
 
-  constant_small : (f : LinearForm) (n : ℕ) → f.constant ≡ pos n → is_within f ≡ true → n ≤ 2 ^ 40
-  constant_small f n is within =
-      let one : is_small f.constant ≡ true = (and_parts _ _ (and_parts _ _ within).0).0 in
-      let two : is_small (pos n) ≡ true = subst (λ (z : ℤ). is_small z ≡ true) is one in
-      leb-true _ _ two
-
   -- the sides' numbers are from 0 to 2^40, and so their differences keep the limit
-  difference_within : (p q : Linear) (f g : LinearForm) → Like p f → Like q g → is_within f ≡ true → is_within g ≡ true → is_within (linear.minus f g) ≡ true
-  difference_within p q f g one two kept_f kept_g = keeps_limits (linear.minus f g)
-      (small_difference f.constant g.constant _ p.constant q.constant refl one.constant_is two.constant_is (constant_small f p.constant one.constant_is kept_f) (constant_small g q.constant two.constant_is kept_g))
+  difference_within : (p q : Linear) (f g : LinearForm) → Like p f → Like q g → p.constant ≤ 2 ^ 40 → q.constant ≤ 2 ^ 40 → is_within (linear.minus f g) ≡ true
+  difference_within p q f g one two small_p small_q = keeps_limits (linear.minus f g)
+      (small_difference f.constant g.constant _ p.constant q.constant refl one.constant_is two.constant_is small_p small_q)
       (merge_rises f.terms _ 0 one.rises (times_rise (negsuc 0) 0 g.terms two.rises))
       (below_merge 8 f.terms _ one.below (below_times 8 (negsuc 0) g.terms two.below))
       (λ s. small_difference (coefficient s f.terms) (coefficient s g.terms) _ _ _
@@ -295,12 +282,11 @@ module _ (c : Scope) (hs : List Held) (kept : Kept c hs) (few : length hs ≤ 8)
       let names_high : Answered (types.names_scalars r.high c) (λ u. model.linear r.low >>= (λ p. model.linear r.high >>= (λ q. Ok tt))) tt = answered _ _ tt names_low.two in
       let low : Answered (model.linear r.low) (λ p. model.linear r.high >>= (λ q. Ok tt)) tt = answered _ _ tt names_high.two in
       let high : Answered (model.linear r.high) (λ q. Ok tt) tt = answered _ _ tt low.two in
-      let low_sided = sided r.low names_low.one low.value low.one in
-      let high_sided = sided r.high names_high.one high.value high.one in
+      let low_like = sided r.low names_low.one low.value low.one in
+      let high_like = sided r.high names_high.one high.value high.one in
       record {
-        high = high_sided.limited;
-        low = low_sided.limited;
-        both = λ kept_high kept_low. difference_within high.value low.value _ _ high_sided.like low_sided.like kept_high kept_low;
+        narrow = record { low = rw (low.one) refl; high = rw (high.one) refl };
+        keeps = λ small_low small_high. difference_within high.value low.value _ _ high_like low_like (small_high high.value high.one) (small_low low.value low.one);
       }
 
   pub all_formed : (k : ℕ) (rs : List Le) → types.requirements k rs c ≡ Ok tt → AllFormed (form_in hs) rs

@@ -5,4 +5,6 @@ mod Firsts
 mod Fitting
 mod Formed
 mod Limits
+mod Narrow
+mod Scoping
 mod Starting

@@ -1,4 +1,4 @@
--- A requirement of a well typed model keeps the limits of forms: its sides do in each part, and so does their difference.
+-- Sides over names with numbers of their own: their forms have the same numbers.
 use Rattle.std.proofs.Common.{◌≡◌, refl, sym, ◌∙◌, ap, subst, arith, ℕ, ◌+◌, ◌*◌, ◌≤◌, ◌^◌, Bool, true, false, List, [], ◌∷◌, length, Option, Some, Result, Ok, Err, ℤ, pos, ◌*ℤ◌, nat_eq, nat_le, if◌then◌else◌}
 use Rattle.std.proofs.Math.Nat.{mul-add}
 use Rattle.std.proofs.lemmas.Bool.{le-leb, eqb-true, leb-true}
@@ -14,17 +14,16 @@ use Rattle.model_syntax.specs.declared.scope.Linear.{Linear}
 use Rattle.model_syntax.specs.Linear.{number, few, term, more, added, scaled, form, times, plus}
 use Rattle.model_syntax.specs.Answer.{◌>>=◌}
 use Rattle.model_syntax.specs.Names.{Name, same}
-use Rattle.sym_heap.specs.Sides.{and_then}
 use Rattle.side_certs.proofs.laws.Coefficients.{coefficient_merge, coefficient_times, Below, below_merge, below_times, keeps_limits}
 use Rattle.sym_heap.proofs.Declared.{Answered, answered}
 
-number_is : (n k : ℕ) → number n ≡ Ok k → (n ≡ k) × (n ≤ 2 ^ 40)
+pub number_is : (n k : ℕ) → number n ≡ Ok k → (n ≡ k) × (n ≤ 2 ^ 40)
 number_is n k is = by (nat_le n (2 ^ 40)) refl where
   by : (small : Bool) → nat_le n (2 ^ 40) ≡ small → (n ≡ k) × (n ≤ 2 ^ 40)
   by true e = ((let one : ◌≡◌ {A = Result ℕ TypeWhy} (Ok n) (Ok k) = subst (λ (b : Bool). ◌≡◌ {A = Result ℕ TypeWhy} (if b then Ok n else Err WideForm) (Ok k)) e is in cc), leb-true _ _ e)
   by false e = absurd (let one : ◌≡◌ {A = Result ℕ TypeWhy} (Err WideForm) (Ok k) = subst (λ (b : Bool). ◌≡◌ {A = Result ℕ TypeWhy} (if b then Ok n else Err WideForm) (Ok k)) e is in cc)
 
-few_is : (ts us : List Term) → few ts ≡ Ok us → ts ≡ us
+pub few_is : (ts us : List Term) → few ts ≡ Ok us → ts ≡ us
 few_is ts us is = by (nat_le (length ts) 16) refl where
   by : (short : Bool) → nat_le (length ts) 16 ≡ short → ts ≡ us
   by true e = let one : ◌≡◌ {A = Result (List Term) TypeWhy} (Ok ts) (Ok us) = subst (λ (b : Bool). ◌≡◌ {A = Result (List Term) TypeWhy} (if b then Ok ts else Err WideForm) (Ok us)) e is in cc
@@ -168,81 +167,54 @@ module _ (num : Name → ℕ) (Known : Name → Type 0) (apart : (x y : Name) �
     pub rises : rises_from 0 f.terms ≡ true
     pub below : Below 8 f.terms
 
-  small : (n : ℕ) (z : ℤ) → z ≡ pos n → n ≤ 2 ^ 40 → is_small z ≡ true
-  small n z is few = rw is (le-leb _ _ few)
-
-  like_within : (p : Linear) (f : LinearForm) → Like p f → p.constant ≤ 2 ^ 40 → within f ≡ Some f
-  like_within p f like few =
-      let is : is_within f ≡ true = keeps_limits f (small p.constant f.constant like.constant_is few) like.rises like.below (λ s. small (total s p.terms) (coefficient s f.terms) (like.coefficient_is s) (total_small s p.terms like.good)) in
-      rw is refl
-
-  pub record Sided (p : Linear) (f : LinearForm) (o : Option LinearForm) : Type 0 where
-    pub like : Like p f
-    pub limited : o ≡ Some f
-
-  pub sum_sided : (p q r : Linear) (f g : LinearForm) (a b : Option LinearForm) → Sided p f a → Sided q g b → plus p q ≡ Ok r
-      → Sided r (linear.plus f g) (and_then a (λ x. and_then b (λ y. within (linear.plus x y))))
-  sum_sided p q r f g a b one two is =
+  pub sum_like : (p q r : Linear) (f g : LinearForm) → Like p f → Like q g → plus p q ≡ Ok r → Like r (linear.plus f g)
+  sum_like p q r f g one two is =
       let first_part : Answered (number (p.constant + q.constant)) (λ n. added p.terms q.terms >>= (λ ts. Ok (form n ts))) r = answered _ _ r is in
       let second_part : Answered (added p.terms q.terms) (λ ts. Ok (form first_part.value ts)) r = answered _ _ r first_part.two in
       let num_is = number_is (p.constant + q.constant) first_part.value first_part.one in
-      let terms : Added p.terms q.terms second_part.value = added_is p.terms q.terms second_part.value one.like.good two.like.good.all second_part.one in
+      let terms : Added p.terms q.terms second_part.value = added_is p.terms q.terms second_part.value one.good two.good.all second_part.one in
       let whole : form first_part.value second_part.value ≡ r = (let e : Ok (form first_part.value second_part.value) ≡ Ok r = second_part.two in cc) in
-      let like : Like (form first_part.value second_part.value) (linear.plus f g) = record {
+      subst (λ (l : Linear). Like l (linear.plus f g)) whole (record {
         good = terms.good;
-        constant_is = (let x = one.like.constant_is in let y = two.like.constant_is in let n = num_is.0 in omega (arith, ints, x, y, n));
-        coefficient_is = λ s. (let x = one.like.coefficient_is s in let y = two.like.coefficient_is s in let z = coefficient_merge s f.terms g.terms in let t = terms.total_is s in omega (arith, ints, x, y, z, t));
-        rises = merge_rises f.terms g.terms 0 one.like.rises two.like.rises;
-        below = below_merge 8 f.terms g.terms one.like.below two.like.below;
-      } in
-      subst (λ (l : Linear). Sided l (linear.plus f g) (and_then a (λ x. and_then b (λ y. within (linear.plus x y))))) whole (record {
-        like = like;
-        limited = rw (one.limited, two.limited) (like_within _ _ like (omega (arith, num_is.0, num_is.1)));
+        constant_is = (let x = one.constant_is in let y = two.constant_is in let n = num_is.0 in omega (arith, ints, x, y, n));
+        coefficient_is = λ s. (let x = one.coefficient_is s in let y = two.coefficient_is s in let z = coefficient_merge s f.terms g.terms in let t = terms.total_is s in omega (arith, ints, x, y, z, t));
+        rises = merge_rises f.terms g.terms 0 one.rises two.rises;
+        below = below_merge 8 f.terms g.terms one.below two.below;
       })
 
   product : (k n : ℕ) (z : ℤ) → z ≡ pos n → (pos k *ℤ z) ≡ pos (k * n)
   product k n z is = rw is (omega (arith, ints))
 
-  none_sided : (p : Linear) (f : LinearForm) (a : Option LinearForm) → Sided p f a → Sided (form 0 []) (linear.times (pos 0) f) (and_then a (λ x. within (linear.times (pos 0) x)))
-  none_sided p f a one =
-      let like : Like (form 0 []) (linear.times (pos 0) f) = record {
-        good = record { all = tt; once = λ s. refl };
-        constant_is = (let x = product 0 p.constant f.constant one.like.constant_is in omega (arith, ints, x));
-        coefficient_is = λ s. (let x = coefficient_times s (pos 0) f.terms in let y = product 0 (total s p.terms) (coefficient s f.terms) (one.like.coefficient_is s) in omega (arith, ints, x, y));
-        rises = times_rise (pos 0) 0 f.terms one.like.rises;
-        below = below_times 8 (pos 0) f.terms one.like.below;
-      } in
-      record { like = like; limited = rw (one.limited) (like_within _ _ like (omega arith)) }
+  none_like : (p : Linear) (f : LinearForm) → Like p f → Like (form 0 []) (linear.times (pos 0) f)
+  none_like p f one = record {
+    good = record { all = tt; once = λ s. refl };
+    constant_is = (let x = product 0 p.constant f.constant one.constant_is in omega (arith, ints, x));
+    coefficient_is = λ s. (let x = coefficient_times s (pos 0) f.terms in let y = product 0 (total s p.terms) (coefficient s f.terms) (one.coefficient_is s) in omega (arith, ints, x, y));
+    rises = times_rise (pos 0) 0 f.terms one.rises;
+    below = below_times 8 (pos 0) f.terms one.below;
+  }
 
-  pub times_sided : (k : ℕ) (p r : Linear) (f : LinearForm) (a : Option LinearForm) → Sided p f a → times k p ≡ Ok r
-      → Sided r (linear.times (pos k) f) (and_then a (λ x. within (linear.times (pos k) x)))
-  times_sided k p r f a one is = by (nat_eq k 0) refl where
-    Shape : ℕ → Type 0
-    Shape m = Sided r (linear.times (pos m) f) (and_then a (λ x. within (linear.times (pos m) x)))
-
+  pub times_like : (k : ℕ) (p r : Linear) (f : LinearForm) → Like p f → times k p ≡ Ok r → Like r (linear.times (pos k) f)
+  times_like k p r f one is = by (nat_eq k 0) refl where
     scaled_whole : Result Linear TypeWhy
     scaled_whole = number (k * p.constant) >>= (λ n. scaled k p.terms >>= (λ ts. Ok (form n ts)))
 
-    by : (none : Bool) → nat_eq k 0 ≡ none → Shape k
+    by : (none : Bool) → nat_eq k 0 ≡ none → Like r (linear.times (pos k) f)
     by true e =
         let zero_k : k ≡ 0 = eqb-true _ _ e in
         let whole : form 0 [] ≡ r = (let two : Ok (form 0 []) ≡ Ok r = subst (λ (b : Bool). (if b then Ok (form 0 []) else scaled_whole) ≡ Ok r) e is in cc) in
-        subst (λ (m : ℕ). Shape m) (sym zero_k) (subst (λ (l : Linear). Sided l (linear.times (pos 0) f) (and_then a (λ x. within (linear.times (pos 0) x)))) whole (none_sided p f a one))
+        subst (λ (m : ℕ). Like r (linear.times (pos m) f)) (sym zero_k) (subst (λ (l : Linear). Like l (linear.times (pos 0) f)) whole (none_like p f one))
     by false e =
         let some : scaled_whole ≡ Ok r = subst (λ (b : Bool). (if b then Ok (form 0 []) else scaled_whole) ≡ Ok r) e is in
         let first_part : Answered (number (k * p.constant)) (λ n. scaled k p.terms >>= (λ ts. Ok (form n ts))) r = answered _ _ r some in
         let second_part : Answered (scaled k p.terms) (λ ts. Ok (form first_part.value ts)) r = answered _ _ r first_part.two in
         let num_is = number_is (k * p.constant) first_part.value first_part.one in
-        let terms : Scaled k p.terms second_part.value = scaled_is k p.terms second_part.value one.like.good.all second_part.one in
+        let terms : Scaled k p.terms second_part.value = scaled_is k p.terms second_part.value one.good.all second_part.one in
         let whole : form first_part.value second_part.value ≡ r = (let two : Ok (form first_part.value second_part.value) ≡ Ok r = second_part.two in cc) in
-        let like : Like (form first_part.value second_part.value) (linear.times (pos k) f) = record {
-          good = record { all = terms.all; once = λ s. terms.total_is s ∙ ap (λ (n : ℕ). k * n) (one.like.good.once s) ∙ sym (terms.first_is s) };
-          constant_is = (let x = product k p.constant f.constant one.like.constant_is in x ∙ ap pos num_is.0);
-          coefficient_is = λ s. coefficient_times s (pos k) f.terms ∙ product k (total s p.terms) (coefficient s f.terms) (one.like.coefficient_is s) ∙ ap pos (sym (terms.total_is s));
-          rises = times_rise (pos k) 0 f.terms one.like.rises;
-          below = below_times 8 (pos k) f.terms one.like.below;
-        } in
-        subst (λ (l : Linear). Sided l (linear.times (pos k) f) (and_then a (λ x. within (linear.times (pos k) x)))) whole (record {
-          like = like;
-          limited = rw (one.limited) (like_within _ _ like (omega (arith, num_is.0, num_is.1)));
+        subst (λ (l : Linear). Like l (linear.times (pos k) f)) whole (record {
+          good = record { all = terms.all; once = λ s. terms.total_is s ∙ ap (λ (n : ℕ). k * n) (one.good.once s) ∙ sym (terms.first_is s) };
+          constant_is = (let x = product k p.constant f.constant one.constant_is in x ∙ ap pos num_is.0);
+          coefficient_is = λ s. coefficient_times s (pos k) f.terms ∙ product k (total s p.terms) (coefficient s f.terms) (one.coefficient_is s) ∙ ap pos (sym (terms.total_is s));
+          rises = times_rise (pos k) 0 f.terms one.rises;
+          below = below_times 8 (pos k) f.terms one.below;
         })

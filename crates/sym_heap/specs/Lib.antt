@@ -1,5 +1,6 @@
 pub mod Arrival
 pub mod Context
 pub mod Fits
+pub mod Scoped
 pub mod Sides
 pub mod Start

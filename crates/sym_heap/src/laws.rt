@@ -1,8 +1,14 @@
 //! What holds of contexts and states.
 ghost use Rattle.sym_heap.specs.Arrival.{StartFits};
+ghost use Rattle.sym_heap.specs.Scoped.{StartIsScoped};
 
 /// Where the arguments meet the model and stand in locals and memory as they should, the context at the start fits,
 /// with the arguments' numbers for the entry symbols.
 pub fn start_fits()
     ensures { StartFits }
+{}
+
+/// The context at the start of a well typed model says of names what the scope of its parameters does.
+pub fn start_is_scoped()
+    ensures { StartIsScoped }
 {}

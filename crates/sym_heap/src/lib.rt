@@ -9,8 +9,9 @@ mod places;
 mod sides;
 
 pub use context::Ctx;
-pub use laws::start_fits;
+pub use laws::{start_fits, start_is_scoped};
 pub use parts::{Clause, Held};
+pub use sides::{NameForms, difference};
 
 #[cfg(test)]
 mod tests;

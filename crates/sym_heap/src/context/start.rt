@@ -8,7 +8,7 @@ ghost use Rattle.sym_heap.specs.Start as spec;
 
 use crate::context::Ctx;
 use crate::parts::{Clause, Held};
-use crate::sides::{difference, number};
+use crate::sides::{number, requirement as required};
 use model_syntax::{Le, Len, Model, Param, Scalar};
 use rup_base::{Name, NoMemory};
 use side_certs::Form;
@@ -62,7 +62,7 @@ impl Ctx {
         ensures { OnOk result (self.new ≡ spec.with_facts (map (difference (form_in self.old.scalars)) requirements.now) self.old) }
     {
         for requirement in requirements {
-            let form = difference(self.scalars(), requirement);
+            let form = required(self.scalars(), requirement);
             self.put_fact(form)?;
         }
         Ok(())

@@ -6,15 +6,25 @@ use Rattle.cert_search.proofs.candidates.newest_fact.Goals as goal
 
 pub returns-in-Some : goal.returns-in-Some
 returns-in-Some c =
-    let below : c.facts.older - 1 < length c.args.facts.now = omega (arith, c.facts-test.true, c.facts.invariant.within, c.requires.within) in
-    let at : slice_get c.args.facts.now (c.facts.older - 1) ≡ Some c.index-facts-older.result = slice_get_read c.args.facts.now (length c.args.facts.now) (c.facts.older - 1) _ refl below c.index-facts-older.is in
-    (omega (arith, c.facts-test.true, c.facts.invariant.within), sym c.facts.invariant.passed ∙ fits c.args.facts.now c.args.term c.facts.older c.index-facts-older.result c.in-Some.mult (omega arith) at (sym c.in-Some.ensures))
+    let facts = c.args.facts.now in
+    let i = c.facts.older - 1 in
+    let within = c.facts.invariant.within in
+    let below : i < length facts = omega (arith, c.facts-test.true, within, c.requires.within) in
+    let fact = c.index-facts-older in
+    let at : slice_get facts i ≡ Some fact.result = slice_get_read facts (length facts) i _ refl below fact.is in
+    let fit = fits facts c.args.term c.facts.older fact.result c.in-Some.mult (omega arith) at c.in-Some.ensures in
+    (omega (arith, c.facts-test.true, within), sym c.facts.invariant.passed ∙ fit)
 
 pub facts-preserved : goal.facts-preserved
 facts-preserved c =
-    let below : c.facts.older - 1 < length c.args.facts.now = omega (arith, c.facts-test.true, c.facts.invariant.within, c.requires.within) in
-    let at : slice_get c.args.facts.now (c.facts.older - 1) ≡ Some c.index-facts-older.result = slice_get_read c.args.facts.now (length c.args.facts.now) (c.facts.older - 1) _ refl below c.index-facts-older.is in
+    let facts = c.args.facts.now in
+    let i = c.facts.older - 1 in
+    let within = c.facts.invariant.within in
+    let below : i < length facts = omega (arith, c.facts-test.true, within, c.requires.within) in
+    let fact = c.index-facts-older in
+    let at : slice_get facts i ≡ Some fact.result = slice_get_read facts (length facts) i _ refl below fact.is in
+    let fit = fits_not facts c.args.term c.facts.older fact.result (omega arith) at c.in_default.ensures in
     record {
-      within = omega (arith, c.facts-test.true, c.facts.invariant.within);
-      passed = fits_not c.args.facts.now c.args.term c.facts.older c.index-facts-older.result (omega arith) at (sym c.in_default.ensures) ∙ c.facts.invariant.passed;
+      within = omega (arith, c.facts-test.true, within);
+      passed = fit ∙ c.facts.invariant.passed;
     }

@@ -16,9 +16,10 @@ abbrev pub invariant-first_candidate-facts : goal.invariant-first_candidate-fact
 invariant-first_candidate-facts l = record {
   within : l.older ≤ length l.facts;
   tried :
-    let attempt = spec.beginning (spec.entries l.facts l.tops l.levels) (spec.next_goal l.facts l.tops l.goal) in
-    spec.first_of attempt (take l.tries (spec.fitting l.facts l.term l.older) ++ spec.at_most_one (spec.symbol_entry l.tops l.term))
-    ≡ spec.first_of attempt (spec.candidates l.facts l.tops l.term);
+      let attempt = spec.beginning (spec.entries l.facts l.tops l.levels) (spec.next_goal l.facts l.tops l.goal) in
+      let symbol = spec.at_most_one (spec.symbol_entry l.tops l.term) in
+      spec.first_of attempt (take l.tries (spec.fitting l.facts l.term l.older) ++ symbol)
+      ≡ spec.first_of attempt (spec.candidates l.facts l.tops l.term);
 }
 
 abbrev pub decreases-first_candidate-facts : goal.decreases-first_candidate-facts

@@ -2,7 +2,7 @@ use Rattle.std.proofs.Common.{ap, arith, rules, SFits}
 use Rattle.std.specs.Int.{w64, w128}
 use Rattle.std.proofs.lemmas.Int.{ints, to_z-of_z}
 use Rattle.side_certs.specs.Combination as spec
-use Rattle.side_certs.proofs.Summing.{split_first}
+use Rattle.side_certs.proofs.laws.Combinations.{split_first}
 use Rattle.side_certs.proofs.combining.+parts_at.Goals as goal
 
 pub returns-in-len1-up-clause-sum : goal.returns-in-len1-up-clause-sum

@@ -4,7 +4,7 @@ use Rattle.std.proofs.lemmas.Int.{to_z-of_z}
 use Rattle.side_certs.specs.declared.combining.Part.{Part}
 use Rattle.side_certs.specs.LinearForm.{rises_from}
 use Rattle.side_certs.specs.Combination as spec
-use Rattle.side_certs.proofs.Summing.{split_first, next_plus, next_times, sum_rises}
+use Rattle.side_certs.proofs.laws.Combinations.{split_first, next_plus, next_times, sum_rises}
 use Rattle.side_certs.proofs.combining.+symbol_of_parts.Goals as goal
 
 pub returns-in-len1-up-clause-next : goal.returns-in-len1-up-clause-next

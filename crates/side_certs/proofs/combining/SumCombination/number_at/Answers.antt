@@ -1,7 +1,7 @@
 use Rattle.std.proofs.Common.{arith, rules, SFits}
 use Rattle.std.specs.Int.{w64}
 use Rattle.std.proofs.lemmas.Int.{ints, to_z-of_z}
-use Rattle.side_certs.proofs.Summing.{number_sum}
+use Rattle.side_certs.proofs.laws.Combinations.{number_sum}
 use Rattle.side_certs.proofs.combining.SumCombination.number_at.Goals as goal
 
 pub returns : goal.returns

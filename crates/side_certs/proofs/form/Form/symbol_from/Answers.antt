@@ -1,4 +1,4 @@
-use Rattle.side_certs.proofs.Summing.{next_first}
+use Rattle.side_certs.proofs.laws.Combinations.{next_first}
 use Rattle.side_certs.proofs.form.Form.symbol_from.Goals as goal
 
 pub returns-then-least-from-clause-next : goal.returns-then-least-from-clause-next

@@ -1,0 +1,73 @@
+-- A context and a typing scope say the same of names: which are scalars and of what type, and which are arrays, with what
+-- elements and length.
+use Rattle.std.specs.Prelude.{◌≡◌, ◌≢◌, ℕ, ◌≤◌, true, false, List, [], ◌∷◌, length, Option, Some, None, is_some, slice_get, pos, Ok}
+use Rattle.side_certs.specs.LinearForm.{LinearForm, constant, symbol}
+use Rattle.model_syntax.specs.declared.expr.Scalar.{Scalar}
+use Rattle.model_syntax.specs.declared.expr.Scalar.TheVariants.{Word, Byte, Flag}
+use Rattle.model_syntax.specs.declared.program.Len.{Len}
+use Rattle.model_syntax.specs.declared.program.Len.TheVariants.{Fixed, Named}
+use Rattle.model_syntax.specs.declared.program.Param.{Param}
+use Rattle.model_syntax.specs.declared.program.Param.TheVariants as param
+use Rattle.model_syntax.specs.declared.program.Model.{Model}
+use Rattle.model_syntax.specs.declared.scope.NameType.TheVariants.{Scalar as One, Array as Many}
+use Rattle.model_syntax.specs.Names.{Name, same}
+use Rattle.model_syntax.specs.Scope.{Scope, look_up}
+use Rattle.model_syntax.specs.Types as types
+use Rattle.sym_heap.specs.declared.parts.Held.{Held}
+use Rattle.sym_heap.specs.declared.parts.Clause.{Clause}
+use Rattle.sym_heap.specs.Context.{Context, scalar, own}
+use Rattle.sym_heap.specs.Start.{start}
+
+-- the names whose values are the numbers of the entry symbols, in their order
+abbrev pub entry_names : List Param → List Name
+entry_names [] = []
+entry_names (param.Word x ∷ ps) = x ∷ entry_names ps
+entry_names (param.Byte x ∷ ps) = x ∷ entry_names ps
+entry_names (param.Bytes a (Fixed n) ∷ ps) = entry_names ps
+entry_names (param.Bytes a (Named x) ∷ ps) = x ∷ entry_names ps
+entry_names (param.Words a (Fixed n) ∷ ps) = entry_names ps
+entry_names (param.Words a (Named x) ∷ ps) = x ∷ entry_names ps
+
+-- the bytes of an element: arrays are of bytes or words
+abbrev pub element_size : Scalar → ℕ
+element_size Word = 4
+element_size Byte = 1
+element_size Flag = 4
+
+-- the length is the entry symbol of this name, whose number a local holds
+pub record IsEntryLength (names : List Name) (x : Name) (f : LinearForm) (l : Option ℕ) : Type 0 where
+  pub place : ℕ
+  pub name : slice_get names place ≡ Some x
+  pub form : f ≡ symbol place
+  pub local : is_some l ≡ true
+
+-- the length is the fixed number, or an entry symbol
+abbrev pub IsLength : List Name → Len → LinearForm → Option ℕ → Type 0
+IsLength names (Fixed n) f l = (f ≡ constant (pos n)) × (l ≡ None)
+IsLength names (Named x) f l = IsEntryLength names x f l
+
+-- the clause's name is an array in scope, with its elements and its length
+pub record IsArrayOf (names : List Name) (scope : Scope) (k : Clause) : Type 0 where
+  pub element : Scalar
+  pub len : Len
+  pub type : look_up scope k.name ≡ Some (Many element len)
+  pub size : k.size ≡ element_size element
+  pub length_is : IsLength names len k.length k.length_local
+
+pub record IsScoped (ps : List Param) (scope : Scope) (c : Context) : Type 0 where
+  -- the scalars are those in scope, with their types
+  pub scalars : (i : ℕ) (h : Held) → slice_get c.scalars i ≡ Some h → look_up scope h.name ≡ Some (One h.kind)
+  pub every_scalar : (x : Name) (t : Scalar) → look_up scope x ≡ Some (One t) → is_some (scalar c x) ≡ true
+  -- the clauses are the arrays in scope
+  pub clauses : (i : ℕ) (k : Clause) → slice_get c.clauses i ≡ Some k → IsArrayOf (entry_names ps) scope k
+  pub every_array : (a : Name) (t : Scalar) (n : Len) → look_up scope a ≡ Some (Many t n) → is_some (own c a) ≡ true
+  -- a name occurs once
+  pub scalars_once : (i j : ℕ) (h k : Held) → slice_get c.scalars i ≡ Some h → slice_get c.scalars j ≡ Some k → i ≢ j → same h.name k.name ≡ false
+  pub clauses_once : (i j : ℕ) (k l : Clause) → slice_get c.clauses i ≡ Some k → slice_get c.clauses j ≡ Some l → i ≢ j → same k.name l.name ≡ false
+  -- the entry symbols are the parameters'
+  pub entries : c.entries ≡ length (entry_names ps)
+  pub few : c.entries ≤ 8
+
+-- the context at the start of a well typed model and the scope of its parameters
+abbrev pub StartIsScoped : Type 0
+StartIsScoped = (m : Model) → types.Well m → (scope : Scope) → types.declare_params m.params [] ≡ Ok scope → IsScoped m.params scope (start m)

@@ -4,3 +4,4 @@ pub mod Bindings
 pub mod Expressions
 pub mod Numbers
 pub mod Parameters
+pub mod Statements

@@ -308,3 +308,9 @@ models_sound m args well formed spelled meets =
     let ended : IsTyped begun.0 end.0.1 (model.end_of m args) = body_keeps begun.0 m.body body.0 spelled 0 start.0 end.0 (model.start m.params args []) end.1.0 begun.1.typed in
     let scope_is : end_scope m ≡ end.0.1 = end_is m start.0 end.0 start.1.0 end.1.0 in
     rw scope_is (all_results begun.0 start.0 end.0.1 (model.start m.params args []) (model.end_of m args) begun.1.typed ended 0 [] m.rets end.1.1)
+
+-- what the value of a model gives is sound
+pub value_sound : (m : Model) (args found : List Arg) → Well m → model_formed m ≡ true → Spellable m → model.value m args ≡ Ok found → IsSound m args found
+value_sound m args found well formed spelled is =
+    let met = first_answered (model.judge_arguments m args) _ found is in
+    subst (IsSound m args) (answer_is (results m args) found met.1.1) (models_sound m args well formed spelled met.1.0)

@@ -10,7 +10,7 @@ use Rattle.model_reader.specs.Numbers as numbers
 use Rattle.model_reader.specs.Parts as parts
 use Rattle.model_reader.specs.Expressions.{atom_expr}
 use Rattle.model_reader.specs.Facts.{atom_side}
-use Rattle.model_syntax.specs.Formed.{is_word}
+use Rattle.model_syntax.specs.Kinds.{is_word}
 use Rattle.model_printer.specs.Printing as printing
 use Rattle.model_printer.proofs.Backs.{at_atom, IsBack}
 use Rattle.model_printer.proofs.Decimal.{number_decimal, name_is_no_number}

@@ -22,7 +22,8 @@ use Rattle.model_reader.specs.Parts as parts
 use Rattle.model_reader.specs.Parts.{Answer, Reading}
 use Rattle.model_reader.specs.Reading.{reading, atom_reading}
 use Rattle.model_reader.specs.Expressions.{expr, list_expr, entry, table_scalar, fits}
-use Rattle.model_syntax.specs.Formed.{is_word, expr_formed, expr_formed_step}
+use Rattle.model_syntax.specs.Kinds.{is_word}
+use Rattle.model_syntax.specs.Formed.{expr_formed, expr_formed_step}
 use Rattle.model_printer.specs.Printing as printing
 use Rattle.model_printer.specs.Printing.{atom, list, expr_step, op_word, cmp_word, scalar_word}
 use Rattle.model_printer.proofs.Backs.{at_atom, at_list, at_worded, IsBack, AreBack, each_back}

@@ -13,7 +13,8 @@ use Rattle.model_reader.specs.Parts as parts
 use Rattle.model_reader.specs.Parts.{Answer, Reading, each}
 use Rattle.model_reader.specs.Reading.{reading, atom_reading}
 use Rattle.model_reader.specs.Facts.{side, fact, list_side, list_fact}
-use Rattle.model_syntax.specs.Formed.{is_word, side_formed, side_formed_step, fact_formed, facts_formed}
+use Rattle.model_syntax.specs.Kinds.{is_word}
+use Rattle.model_syntax.specs.Formed.{side_formed, side_formed_step, fact_formed, facts_formed}
 use Rattle.model_printer.specs.Printing as printing
 use Rattle.model_printer.specs.Printing.{atom, side_step}
 use Rattle.model_printer.proofs.Backs.{at_atom, at_worded, at_headed, IsBack, each_back, all_back}

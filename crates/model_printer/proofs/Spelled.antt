@@ -28,7 +28,8 @@ use Rattle.model_syntax.specs.declared.program.Param.TheVariants as parameter
 use Rattle.model_syntax.specs.declared.program.Ret.{Ret}
 use Rattle.model_syntax.specs.declared.program.Ret.TheVariants as result
 use Rattle.model_syntax.specs.declared.program.Model.{Model}
-use Rattle.model_syntax.specs.Formed.{is_word, expr_formed, expr_formed_step, side_formed, side_formed_step, fact_formed, facts_formed, names_formed, stmt_formed, stmt_formed_step, len_formed, param_formed, ret_formed, model_formed}
+use Rattle.model_syntax.specs.Kinds.{is_word}
+use Rattle.model_syntax.specs.Formed.{expr_formed, expr_formed_step, side_formed, side_formed_step, fact_formed, facts_formed, names_formed, stmt_formed, stmt_formed_step, len_formed, param_formed, ret_formed, model_formed}
 use Rattle.model_printer.specs.Printing as printing
 use Rattle.model_printer.specs.Printing.{atom, list, worded, op_word, cmp_word, scalar_word, expr_step, side_step, stmt_step}
 use Rattle.model_printer.proofs.Decimal.{decimal_spelled, name_spelled}

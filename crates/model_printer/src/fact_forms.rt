@@ -1,6 +1,7 @@
 //! Forms of requirements and kept facts.
 ghost use Rattle.std.specs.Prelude.{◌≡◌, [], ◌∷◌, ◌&&◌, map, true, IfOk, OnOk};
 ghost use Rattle.model_syntax.specs.Formed as formed;
+ghost use Rattle.model_syntax.specs.Kinds.{is_word};
 ghost use Rattle.model_printer.specs.Printing as printing;
 
 use crate::forms::{begun, list, name_form, number_form, pair};
@@ -29,7 +30,7 @@ fn side_form(alloc: Global, side: &Lin) -> Result<Sx, NoMemory>
 #[cycle(side)]
 fn scale_form(alloc: Global, factor: u32, part: &Lin) -> Result<Sx, NoMemory>
     ensures form { IfOk result (λ form. form ≡ printing.scale factor (printing.side part.now)) }
-    ensures formed { OnOk result (formed.is_word factor && formed.side_formed part.now ≡ true) }
+    ensures formed { OnOk result (is_word factor && formed.side_formed part.now ≡ true) }
 {
     let mut forms = begun(alloc, b"mul")?;
     forms.push(number_form(alloc, factor)?)?;

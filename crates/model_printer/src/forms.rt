@@ -3,6 +3,7 @@ ghost use Rattle.std.specs.Prelude.{◌≡◌, [], ◌∷◌, map, true, IfOk, O
 ghost use Rattle.rup_base.specs.Name.{is_name};
 ghost use Rattle.sx_text.specs.Forms.{place};
 ghost use Rattle.model_syntax.specs.Formed as formed;
+ghost use Rattle.model_syntax.specs.Kinds.{is_word};
 ghost use Rattle.model_printer.specs.Printing as printing;
 
 use rup_base::{List, Name, NoMemory, Place, Text};
@@ -36,7 +37,7 @@ pub fn name_form(alloc: Global, x: &Name) -> Result<Sx, NoMemory>
 
 pub fn number_form(alloc: Global, n: u32) -> Result<Sx, NoMemory>
     ensures form { IfOk result (λ form. form ≡ printing.number n) }
-    ensures formed { OnOk result (formed.is_word n ≡ true) }
+    ensures formed { OnOk result (is_word n ≡ true) }
 {
     let digits = format!(in alloc; "{n}")?;
     atom(alloc, digits.as_bytes())

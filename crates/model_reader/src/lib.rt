@@ -14,4 +14,4 @@ mod reader;
 mod statements;
 mod words;
 
-pub use reader::read_model;
+pub use reader::{read_model, text_is_of_formed_model};

@@ -39,15 +39,15 @@ first_of [] (suc k) y ys is = absurd (cc)
 first_of (x ∷ xs) zero y ys is = let head : x ≡ y = cc in let tail : xs ≡ ys = cc in record { is = λ d. head; got = ap Some head; rest = tail; inside = omega arith }
 first_of (x ∷ xs) (suc k) y ys is = let f = first_of xs k y ys is in record { is = f.is; got = f.got; rest = (let next_place : suc k + 1 ≡ suc (k + 1) = omega arith in subst (λ (j : ℕ). drop j (x ∷ xs) ≡ ys) (sym next_place) f.rest); inside = (let less = f.inside in omega (arith, less)) }
 
-module _ (call : Call) (mem : Bytes) (locals : Locals) where
+module _ (arguments : List Arg) (call : Call) (sized : (p : ℕ) → call.sizes p ≡ length (array_bytes (slice_get arguments p))) (mem : Bytes) (locals : Locals) where
   abbrev Here : Scope → Context → Env → ℕ → Type 0
-  Here = Arrived call mem locals (numbers_of call)
+  Here = Arrived arguments call mem locals (numbers_of call)
 
   later : (scope : Scope) (c : Context) (env : Env) (p : ℕ) → Here scope c env p → Here scope c env (p + 1)
   later scope c env p a = record {
     scalars = a.scalars;
     scalars_apart = a.scalars_apart;
-    clauses = λ i k at. (let s = a.clauses i k at in record { length_known = s.length_known; param = (let less = s.param in omega (arith, less)); known = s.known; fits = s.fits });
+    clauses = λ i k at. (let s = a.clauses i k at in record { length_known = s.length_known; param = (let less = s.param in omega (arith, less)); known = s.known; fits = s.fits; given = s.given });
     clauses_apart = a.clauses_apart;
     tops = a.tops;
     below = a.below;
@@ -62,10 +62,10 @@ module _ (call : Call) (mem : Bytes) (locals : Locals) where
       let new = declared x (One t) scope d is in
       let f = first_of call.entries (length c.scalars) n rest next in
       subst (λ (s : Scope). Here s (with_argument x t c) (put x (arg.Word n) env) p) (sym new.1)
-      (argument_arrived call mem locals (numbers_of call) scope c env p x t (One t) n a new.0 (f.is 0) small local)
+      (argument_arrived arguments call mem locals (numbers_of call) scope c env p x t (One t) n a new.0 (f.is 0) small local)
 
   array_arrived : (scope d : Scope) (c : Context) (env : Env) (p : ℕ) (a : Name) (size_ : ℕ) (t : Scalar) (n : Len) (v : Arg) → Here scope c env p
-      → (types.declare a (Many t n) scope >>= types.declare_length n) ≡ Ok d → HasArray size_ n v (call.pointers p) (next_local c) mem locals → slice_get call.args p ≡ Some v
+      → (types.declare a (Many t n) scope >>= types.declare_length n) ≡ Ok d → HasArray size_ n v (call.pointers p) (next_local c) mem locals → slice_get arguments p ≡ Some v
       → (rest : List ℕ) → ((x : Name) → n ≡ Named x → drop (length c.scalars) call.entries ≡ length (elements (Some v)) ∷ rest)
       → Here d (with_array p a size_ n c) (value.bind_length n (size (elements (Some v))) (put a v env)) (p + 1)
   array_arrived scope d c env p a size_ t n v arrived is has given rest next = by n refl parts.two has.has_length where
@@ -81,10 +81,9 @@ module _ (call : Call) (mem : Bytes) (locals : Locals) where
       array = has.array;
       form = form;
       length_local = local;
-      parameter = ap (λ (o : Option Arg). length (array_bytes o)) (sym given);
+      parameter = ap (λ (o : Option Arg). length (array_bytes o)) (sym given) ∙ sym (sized p);
       pointer = has.pointer;
       stands = has.stands;
-      unwritten = λ none. sym given;
       few = has.few;
       aligned = has.aligned;
       ends = has.ends;
@@ -94,7 +93,7 @@ module _ (call : Call) (mem : Bytes) (locals : Locals) where
         → Here parts.value (with_pointer p a size_ f l c) (put a v env) (p + 1)
     pointed f l known form local =
         subst (λ (s : Scope). Here s (with_pointer p a size_ f l c) (put a v env) (p + 1)) (sym new.1)
-        (pointer_arrived call mem locals (numbers_of call) scope c env p a size_ f l (Many t n) v arrived new.0 known (fits f l form local))
+        (pointer_arrived arguments call mem locals (numbers_of call) scope c env p a size_ f l (Many t n) v arrived new.0 known (fits f l form local) given)
 
     by : (m : Len) → n ≡ m → types.declare_length m parts.value ≡ Ok d → HasLength m (length (elements (Some v))) (next_local c + 1) locals
         → Here d (with_array p a size_ m c) (value.bind_length m (size (elements (Some v))) (put a v env)) (p + 1)
@@ -113,7 +112,7 @@ module _ (call : Call) (mem : Bytes) (locals : Locals) where
         let length_local : locals (next_local (with_pointer p a size_ s (Some (next_local c + 1)) c)) ≡ Some (length (elements (Some v))) =
         ap locals (after_pointer p a size_ s (Some (next_local c + 1)) c) ∙ long in
         subst (λ (m : ℕ). Here d (with_array p a size_ (Named x) c) (put x (arg.Word m) (put a v env)) (p + 1)) (sym (size_is v few))
-        (reserved_arrived call mem locals (numbers_of call) d _ _ (p + 1) (next_local c + 1)
+        (reserved_arrived arguments call mem locals (numbers_of call) d _ _ (p + 1) (next_local c + 1)
         (scalar_arrived parts.value d (with_pointer p a size_ s (Some (next_local c + 1)) c) (put a v env) (p + 1) x Word (length (elements (Some v))) rest pointed_here rest_is (next x which) few length_local))
       where
         known_symbol : length c.scalars < length call.entries → Known (length call.entries) (symbol (length c.scalars))
@@ -124,23 +123,23 @@ module _ (call : Call) (mem : Bytes) (locals : Locals) where
   pub record Left (c : Context) (p : ℕ) (qs : List Param) (vs : List Arg) : Type 0 where
     pub entries : drop (length c.scalars) call.entries ≡ entry_numbers qs vs
     pub count : length c.scalars + length (entry_numbers qs vs) ≡ length call.entries
-    pub args : drop p call.args ≡ vs
+    pub args : drop p arguments ≡ vs
 
   record Step (d : Scope) (c : Context) (env : Env) (p : ℕ) (qs : List Param) (vs : List Arg) : Type 0 where
     pub here : Here d c env p
     pub left : Left c p qs vs
 
   number_step : (scope d : Scope) (c : Context) (env : Env) (p : ℕ) (x : Name) (t : Scalar) (n : ℕ) (qs : List Param) (vs : List Arg) → Here scope c env p → types.declare x (One t) scope ≡ Ok d
-      → drop (length c.scalars) call.entries ≡ n ∷ entry_numbers qs vs → length c.scalars + suc (length (entry_numbers qs vs)) ≡ length call.entries → drop p call.args ≡ arg.Word n ∷ vs
+      → drop (length c.scalars) call.entries ≡ n ∷ entry_numbers qs vs → length c.scalars + suc (length (entry_numbers qs vs)) ≡ length call.entries → drop p arguments ≡ arg.Word n ∷ vs
       → n ≤ top_of t → locals (next_local c) ≡ Some n → Step d (with_argument x t c) (put x (arg.Word n) env) (p + 1) qs vs
-  number_step scope d c env p x t n qs vs a is next count args small local =
+  number_step scope d c env p x t n qs vs a is next count left_args small local =
       let longer : length (with_argument x t c).scalars ≡ length c.scalars + 1 = length-append c.scalars _ in
       record {
         here = later d (with_argument x t c) (put x (arg.Word n) env) p (scalar_arrived scope d c env p x t n (entry_numbers qs vs) a is next small local);
         left = record {
           entries = ap (λ (k : ℕ). drop k call.entries) longer ∙ (first_of call.entries (length c.scalars) n (entry_numbers qs vs) next).rest;
           count = omega (arith, longer, count);
-          args = (first_of call.args p (arg.Word n) vs args).rest;
+          args = (first_of arguments p (arg.Word n) vs left_args).rest;
         };
       }
 
@@ -152,8 +151,8 @@ module _ (call : Call) (mem : Bytes) (locals : Locals) where
     here = array_arrived scope d c env p a size_ t n v arrived is has first_arg.got (entry_numbers qs vs) (λ x which. left.entries ∙ named x which);
     left = by n refl;
   } where
-    first_arg : First call.args p v vs
-    first_arg = first_of call.args p v vs left.args
+    first_arg : First arguments p v vs
+    first_arg = first_of arguments p v vs left.args
 
     by : (m : Len) → n ≡ m → Left (with_array p a size_ m c) (p + 1) qs vs
     by (Fixed k) which = record { entries = left.entries ∙ fixed k which; count = (let one = left.count in let two = ap length (fixed k which) in omega (arith, one, two)); args = first_arg.rest }

@@ -68,7 +68,7 @@ now_known x t scope gone = let bad : Some t ≡ None = sym (look_bound x t scope
 new_name : (scope : Scope) (x y : Name) → look_up scope x ≡ None → InScope scope y → x ≡ y → ⊥
 new_name scope x y new known is = known (ap (λ z. look_up scope z) (sym is) ∙ new)
 
-module _ (call : Call) (mem : Bytes) (locals : Locals) (numbers : ℕ → ℕ) where
+module _ (args : List Arg) (call : Call) (mem : Bytes) (locals : Locals) (numbers : ℕ → ℕ) where
   pub record ScalarIn (scope : Scope) (env : Env) (most i : ℕ) (h : Held) : Type 0 where
     pub form : h.form ≡ symbol i
     pub local : h.local < most
@@ -80,6 +80,7 @@ module _ (call : Call) (mem : Bytes) (locals : Locals) (numbers : ℕ → ℕ) w
     pub param : k.param < p
     pub known : InScope scope k.name
     pub fits : ClauseFits call numbers k (value_of env k.name) mem locals
+    pub given : value_of env k.name ≡ slice_get args k.param
 
   abbrev pub ScalarsApart : List Held → Type 0
   ScalarsApart hs = (i j : ℕ) (h k : Held) → slice_get hs i ≡ Some h → slice_get hs j ≡ Some k → i ≢ j → (same h.name k.name ≡ false) × (h.local ≢ k.local)
@@ -112,6 +113,7 @@ module _ (call : Call) (mem : Bytes) (locals : Locals) (numbers : ℕ → ℕ) w
     param = (let a = s.param in omega (arith, a, le));
     known = still x t scope k.name s.known;
     fits = subst (λ (f : Option Arg). ClauseFits call numbers k f mem locals) (sym (value_else x k.name v env (new_name scope x k.name new s.known))) s.fits;
+    given = value_else x k.name v env (new_name scope x k.name new s.known) ∙ s.given;
   }
 
   -- a number in the next local
@@ -163,8 +165,8 @@ module _ (call : Call) (mem : Bytes) (locals : Locals) (numbers : ℕ → ℕ) w
 
   -- a pointer in the next local
   pub pointer_arrived : (scope : Scope) (c : Context) (env : Env) (p : ℕ) (a : Name) (size : ℕ) (f : LinearForm) (l : Option ℕ) (shape : NameType) (v : Arg) → Arrived scope c env p → look_up scope a ≡ None
-      → Known (length call.entries) f → ClauseFits call numbers (clause a p size (next_local c) f l) (Some v) mem locals → Arrived (bind a shape scope) (with_pointer p a size f l c) (put a v env) (p + 1)
-  pointer_arrived scope c env p a size f l shape v arrived new known fits = record {
+      → Known (length call.entries) f → ClauseFits call numbers (clause a p size (next_local c) f l) (Some v) mem locals → slice_get args p ≡ Some v → Arrived (bind a shape scope) (with_pointer p a size f l c) (put a v env) (p + 1)
+  pointer_arrived scope c env p a size f l shape v arrived new known fits given = record {
     scalars = λ i h at. scalar_stays scope env (next_local c) _ i h a shape v new (let more = after_pointer p a size f l c in omega (arith, more)) (arrived.scalars i h at);
     scalars_apart = arrived.scalars_apart;
     clauses = λ i k at. in_clauses i k (at_end c.clauses new_one i k at);
@@ -181,6 +183,7 @@ module _ (call : Call) (mem : Bytes) (locals : Locals) (numbers : ℕ → ℕ) w
       param = omega arith;
       known = now_known a shape scope;
       fits = subst (λ (found : Option Arg). ClauseFits call numbers new_one found mem locals) (sym (value_here a v env)) fits;
+      given = value_here a v env ∙ sym given;
     }
 
     in_clauses : (i : ℕ) (k : Clause) → (slice_get c.clauses i ≡ Some k) ⊎ ((i ≡ length c.clauses) × (new_one ≡ k)) → ClauseIn (bind a shape scope) (put a v env) (p + 1) k

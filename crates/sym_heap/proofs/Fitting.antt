@@ -36,7 +36,7 @@ use Rattle.sym_heap.specs.declared.parts.Clause.{Clause}
 use Rattle.sym_heap.specs.Arrival.{HasArguments, AreApart, numbers_of, StartFits}
 use Rattle.sym_heap.specs.Context.{Context, is_scalar, is_clause, has}
 use Rattle.rv_memory.specs.Ranges.{Bytes}
-use Rattle.sym_heap.specs.Fits.{Locals, call_of, Known, IsConsistent, ScalarFits, ClauseFits, FitsBy}
+use Rattle.sym_heap.specs.Fits.{Locals, call_of, Known, IsConsistent, ScalarFits, ClauseFits, FitsBy, ArgsHeld}
 use Rattle.sym_heap.specs.Sides.{form_in, side, side_step, difference}
 use Rattle.sym_heap.specs.Start.{empty, next_local, clause, with_array, with_param, with_params, start}
 use Rattle.sym_heap.proofs.Arriving.{at_end, Arrived}
@@ -225,7 +225,7 @@ mapped f (x ∷ xs) (suc i) y at = let m = mapped f xs i y at in record { from =
 
 module _ (m : Model) (well : types.Well m) (args : List Arg) (meets : value.Meets m args) (pointers : ℕ → ℕ) (mem : Bytes) (locals : Locals)
     (has_arguments : HasArguments 0 0 m.params args pointers mem locals) (are_apart : AreApart (call_of m args pointers)) where
-  nothing_yet : Arrived (call_of m args pointers) mem locals (numbers_of (call_of m args pointers)) [] empty [] 0
+  nothing_yet : Arrived args (call_of m args pointers) mem locals (numbers_of (call_of m args pointers)) [] empty [] 0
   nothing_yet = record {
     scalars = λ i h bad. absurd (let worse : None ≡ Some h = bad in cc);
     scalars_apart = λ i j h k bad. absurd (let worse : None ≡ Some h = bad in cc);
@@ -235,11 +235,11 @@ module _ (m : Model) (well : types.Well m) (args : List Arg) (meets : value.Meet
     below = λ s top bad. absurd (let worse : None ≡ Some top = bad in cc);
   }
 
-  all : AllHere (call_of m args pointers) mem locals (start_scope m well).scope (with_params 0 m.params empty) (value.start m.params args [])
-  all = params_arrived (call_of m args pointers) mem locals m.params args [] (start_scope m well).scope empty [] 0 nothing_yet (start_scope m well).declares has_arguments
+  all : AllHere args (call_of m args pointers) (λ p. refl) mem locals (start_scope m well).scope (with_params 0 m.params empty) (value.start m.params args [])
+  all = params_arrived args (call_of m args pointers) (λ p. refl) mem locals m.params args [] (start_scope m well).scope empty [] 0 nothing_yet (start_scope m well).declares has_arguments
       (record { entries = refl; count = omega arith; args = refl })
 
-  here : Arrived (call_of m args pointers) mem locals (numbers_of (call_of m args pointers)) (start_scope m well).scope (with_params 0 m.params empty) (value.start m.params args []) all.params
+  here : Arrived args (call_of m args pointers) mem locals (numbers_of (call_of m args pointers)) (start_scope m well).scope (with_params 0 m.params empty) (value.start m.params args []) all.params
   here = all.here
 
   symbols : length (with_params 0 m.params empty).tops ≡ length (with_params 0 m.params empty).scalars
@@ -316,5 +316,11 @@ module _ (m : Model) (well : types.Well m) (args : List Arg) (meets : value.Meet
     ranges = λ i j k l at_i at_j differ. are_apart k.param l.param (here.clauses_apart i j k l at_i at_j differ).1;
   }
 
+  args_at_start : ArgsHeld args (start m) (value.start m.params args [])
+  args_at_start a k found never =
+      let s : Somewhere (is_clause a) (with_params 0 m.params empty).clauses k = somewhere _ _ k found in
+      subst (λ (y : Name). value_of (value.start m.params args []) y ≡ slice_get args k.param) ((bytes_decides k.name a).0 s.passes) (here.clauses s.place k s.at).given
+
 pub start_fits : StartFits
-start_fits m well args meets pointers mem locals has_arguments are_apart = fits_at_start m well args meets pointers mem locals has_arguments are_apart
+start_fits m well args meets pointers mem locals has_arguments are_apart =
+    (fits_at_start m well args meets pointers mem locals has_arguments are_apart, args_at_start m well args meets pointers mem locals has_arguments are_apart)

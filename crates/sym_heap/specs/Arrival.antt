@@ -11,7 +11,7 @@ use Rattle.model_syntax.specs.Environment.{elements}
 use Rattle.model_syntax.specs.Types.{Well}
 use Rattle.model_syntax.specs.Value as value
 use Rattle.rv_memory.specs.Ranges.{Bytes, Apart, Stands}
-use Rattle.sym_heap.specs.Fits.{Locals, Call, call_of, IsArray, array_bytes, range_of, FitsBy}
+use Rattle.sym_heap.specs.Fits.{Locals, Call, call_of, IsArray, array_bytes, range_of, FitsBy, ArgsHeld}
 use Rattle.sym_heap.specs.Start.{registers_of, start}
 
 -- a number of at most so much is in a local
@@ -55,8 +55,9 @@ AreApart call = (p q : ℕ) → p ≢ q → Apart (range_of call p) (range_of ca
 abbrev pub numbers_of : Call → ℕ → ℕ
 numbers_of call s = slice_index_or call.entries s 0
 
--- where the arguments meet the model and stand as they should, the context at the start fits
+-- where the arguments meet the model and stand as they should, the context at the start fits, and arrays are the arguments
 abbrev pub StartFits : Type 0
 StartFits = (m : Model) → Well m → (args : List Arg) → value.Meets m args → (pointers : ℕ → ℕ) (mem : Bytes) (locals : Locals)
     → HasArguments 0 0 m.params args pointers mem locals → AreApart (call_of m args pointers)
     → FitsBy (call_of m args pointers) (numbers_of (call_of m args pointers)) (start m) (value.start m.params args []) mem locals
+    × ArgsHeld args (start m) (value.start m.params args [])

@@ -34,14 +34,11 @@ entry_numbers (param.Words a (Named x) ∷ ps) (v ∷ vs) = length (elements (So
 entry_numbers (p ∷ ps) (v ∷ vs) = entry_numbers ps vs
 entry_numbers ps vs = []
 
--- the arguments, the numbers of the entry symbols, and the address at which the array of each parameter stands
+-- the numbers of the entry symbols, and the address at which the array of each parameter stands, with its bytes' number
 pub record Call : Type 0 where
-  pub args : List Arg
   pub entries : List ℕ
   pub pointers : ℕ → ℕ
-
-abbrev pub call_of : Model → List Arg → (ℕ → ℕ) → Call
-call_of m args pointers = record { args = args; entries = entry_numbers m.params args; pointers = pointers }
+  pub sizes : ℕ → ℕ
 
 -- Arrays in memory.
 
@@ -51,9 +48,16 @@ array_bytes (Some (arg.Bytes bytes)) = bytes
 array_bytes (Some (arg.Words words)) = flat_map (to_le_bytes w32) words
 array_bytes v = []
 
+abbrev pub call_of : Model → List Arg → (ℕ → ℕ) → Call
+call_of m args pointers = record {
+  entries = entry_numbers m.params args;
+  pointers = pointers;
+  sizes = λ p. length (array_bytes (slice_get args p));
+}
+
 -- the range of the array of a parameter
 abbrev pub range_of : Call → ℕ → Range
-range_of call p = record { start = call.pointers p; size = length (array_bytes (slice_get call.args p)) }
+range_of call p = record { start = call.pointers p; size = call.sizes p }
 
 -- What holds of a context alone.
 
@@ -97,10 +101,9 @@ pub record ClauseFits (call : Call) (numbers : ℕ → ℕ) (k : Clause) (found 
   pub array : IsArray k.size found
   pub form : value_at numbers k.length ≡ pos (length (elements found))
   pub length_local : (l : ℕ) → k.length_local ≡ Some l → locals l ≡ Some (length (elements found))
-  pub parameter : length (array_bytes found) ≡ length (array_bytes (slice_get call.args k.param))
+  pub parameter : length (array_bytes found) ≡ call.sizes k.param
   pub pointer : locals k.pointer ≡ Some (call.pointers k.param)
   pub stands : Stands mem (call.pointers k.param) (array_bytes found)
-  pub unwritten : k.writes ≡ 0 → found ≡ slice_get call.args k.param
   pub few : length (elements found) ≤ 4294967295
   pub aligned : call.pointers k.param % k.size ≡ 0
   pub ends : call.pointers k.param + length (array_bytes found) ≤ 2 ^ 32
@@ -114,6 +117,10 @@ pub record FitsBy (call : Call) (numbers : ℕ → ℕ) (c : Context) (env : Env
   pub scalars : (x : Name) (h : Held) → scalar c x ≡ Some h → ScalarFits numbers h (value_of env x) locals
   pub clauses : (a : Name) (k : Clause) → own c a ≡ Some k → ClauseFits call numbers k (value_of env a) mem locals
   pub ranges : (i j : ℕ) (k l : Clause) → slice_get c.clauses i ≡ Some k → slice_get c.clauses j ≡ Some l → i ≢ j → Apart (range_of call k.param) (range_of call l.param)
+
+-- an array that was never written is its parameter's argument
+abbrev pub ArgsHeld : List Arg → Context → Env → Type 0
+ArgsHeld args c env = (a : Name) (k : Clause) → own c a ≡ Some k → k.writes ≡ 0 → value_of env a ≡ slice_get args k.param
 
 -- there are such numbers
 abbrev pub Fits : Call → Context → Env → Bytes → Locals → Type 0

@@ -3,7 +3,7 @@
 #![tactic(auto)]
 
 mod context;
-mod laws;
+pub mod laws;
 mod parts;
 mod places;
 mod sides;

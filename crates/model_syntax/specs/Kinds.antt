@@ -1,6 +1,6 @@
 -- Which arguments are of a kind: a word is below 2^32, a byte below 2^8, the elements of an array likewise, and an array
 -- has the number of elements that is fixed, or any that a word holds where its length has a name.
-use Rattle.std.specs.Prelude.{ℕ, nat_eq, nat_le, Bool, true, false, ◌&&◌, List, map, length, Option, Some, None}
+use Rattle.std.specs.Prelude.{ℕ, nat_eq, nat_le, Bool, false, ◌&&◌, map, length, Option, Some, None}
 use Rattle.rup_base.specs.Gather.{all_true}
 use Rattle.rup_base.specs.declared.arg.Kind.{Kind}
 use Rattle.rup_base.specs.declared.arg.Kind.TheVariants as kind

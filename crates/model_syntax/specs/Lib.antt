@@ -11,3 +11,4 @@ pub mod Types
 pub mod Value
 pub mod Formed
 pub mod Kinds
+pub mod Sound

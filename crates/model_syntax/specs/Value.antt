@@ -3,7 +3,7 @@ use Rattle.std.specs.Prelude.{◌≡◌, ℕ, ◌+◌, ◌-◌, ◌*◌, ◌%◌
 use Rattle.std.specs.List.{range_with_len}
 use Rattle.std.proofs.Math.ListN.{get_or}
 use Rattle.rup_base.specs.declared.arg.Arg.{Arg}
-use Rattle.rup_base.specs.declared.arg.Arg.TheVariants.{Word, Bytes, Words}
+use Rattle.rup_base.specs.declared.arg.Arg.TheVariants.{Word}
 use Rattle.rup_base.specs.declared.refusal.ArgFault.TheVariants.{Count, Param as OfParam, Require as OfRequire}
 use Rattle.rup_base.specs.declared.refusal.Refusal.{Refusal}
 use Rattle.rup_base.specs.declared.refusal.Refusal.TheVariants.{BadArguments}

@@ -1,6 +1,8 @@
 //! What no clause says: that the calls succeed where memory is left.
-ghost use Rattle.std.specs.Prelude.{◌≡◌, map, IfOk, IsTrue};
+ghost use Rattle.std.specs.Prelude.{◌≡◌, true, map, IfOk, IsTrue};
+ghost use Rattle.rup_base.specs.Name.{is_name};
 ghost use Rattle.rup_base.specs.Gather.{all_true};
+ghost use Rattle.model_syntax.specs.Formed.{expr_formed, facts_formed, param_formed, ret_formed, stmt_formed};
 ghost use Rattle.model_syntax.specs.Spelling.{expr_spellable, stmt_spellable};
 
 use crate::value;
@@ -10,13 +12,16 @@ use rup_base::{Arg, ArgFault, Args, Box, Fail, List, Name, NoMemory, Refusal};
 use std::alloc::Global;
 use std::test::Fail as Failed;
 
-fn name(alloc: Global, text: &[u8]) -> Result<Name, Failed> {
+fn name(alloc: Global, text: &[u8]) -> Result<Name, Failed>
+    ensures { IfOk result (λ x. is_name x ≡ true) }
+{
     Ok(Name::read(alloc, text)?.ok_or("a name")?)
 }
 
 /// `(add a b)`
 fn sum(alloc: Global) -> Result<Expr, Failed>
-    ensures { IfOk result (λ e. IsTrue (expr_spellable e)) }
+    ensures spellable { IfOk result (λ e. IsTrue (expr_spellable e)) }
+    ensures formed { IfOk result (λ e. expr_formed e ≡ true) }
 {
     let a = Box::new(alloc, Expr::Var(name(alloc, b"a")?))?;
     let b = Box::new(alloc, Expr::Var(name(alloc, b"b")?))?;
@@ -24,7 +29,9 @@ fn sum(alloc: Global) -> Result<Expr, Failed>
 }
 
 /// `(params (word a) (word b))`
-fn params(alloc: Global) -> Result<List<Param>, Failed> {
+fn params(alloc: Global) -> Result<List<Param>, Failed>
+    ensures { IfOk result (λ params. all_true (map param_formed params) ≡ true) }
+{
     let mut params = List::new(alloc);
     params.push(Param::Word(name(alloc, b"a")?))?;
     params.push(Param::Word(name(alloc, b"b")?))?;
@@ -32,7 +39,9 @@ fn params(alloc: Global) -> Result<List<Param>, Failed> {
 }
 
 /// `(require (le b 1))`
-fn requirement(alloc: Global) -> Result<List<Le>, Failed> {
+fn requirement(alloc: Global) -> Result<List<Le>, Failed>
+    ensures { IfOk result (λ requirements. facts_formed requirements ≡ true) }
+{
     let low = Lin::Var(name(alloc, b"b")?);
     let high = Lin::Const(1);
     let mut requirements = List::new(alloc);
@@ -41,7 +50,9 @@ fn requirement(alloc: Global) -> Result<List<Le>, Failed> {
 }
 
 /// `(ret a)`
-fn rets(alloc: Global) -> Result<List<Ret>, Failed> {
+fn rets(alloc: Global) -> Result<List<Ret>, Failed>
+    ensures { IfOk result (λ rets. all_true (map ret_formed rets) ≡ true) }
+{
     let mut rets = List::new(alloc);
     rets.push(Ret::Scalar(name(alloc, b"a")?))?;
     Ok(rets)
@@ -49,7 +60,8 @@ fn rets(alloc: Global) -> Result<List<Ret>, Failed> {
 
 /// `(do (let a (add a b)))`
 fn body(alloc: Global) -> Result<List<Stmt>, Failed>
-    ensures { IfOk result (λ body. IsTrue (all_true (map stmt_spellable body))) }
+    ensures spellable { IfOk result (λ body. IsTrue (all_true (map stmt_spellable body))) }
+    ensures formed { IfOk result (λ body. all_true (map stmt_formed body) ≡ true) }
 {
     let mut body = List::new(alloc);
     body.push(Stmt::Let(name(alloc, b"a")?, sum(alloc)?))?;

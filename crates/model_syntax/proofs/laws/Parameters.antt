@@ -5,7 +5,6 @@ use Rattle.std.proofs.lemmas.List.{length-map, length-append}
 use Rattle.rup_base.specs.declared.refusal.TypePlace.TheVariants.{Params}
 use Rattle.rup_base.specs.declared.refusal.TypeWhy.{TypeWhy}
 use Rattle.rup_base.specs.declared.refusal.TypeWhy.TheVariants as why
-use Rattle.model_syntax.specs.Answer.{◌>>=◌}
 use Rattle.model_syntax.specs.Names.{Name}
 use Rattle.model_syntax.specs.Scope.{Scope, bind, look_up}
 use Rattle.model_syntax.specs.declared.scope.NameType.{NameType}

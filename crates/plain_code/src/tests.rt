@@ -1,5 +1,6 @@
 //! What no clause says: that the calls succeed where memory is left.
 ghost use Rattle.std.specs.Prelude.{◌≡◌, [], true, IfOk};
+ghost use Rattle.rup_base.specs.Name.{is_name};
 ghost use Rattle.deriv_tree.specs.Shape.{IsWhole};
 
 use crate::plain_code;
@@ -11,7 +12,9 @@ use rup_base::{List, Name};
 use std::alloc::Global;
 use std::test::Fail as Failed;
 
-fn name(alloc: Global, text: &[u8]) -> Result<Name, Failed> {
+fn name(alloc: Global, text: &[u8]) -> Result<Name, Failed>
+    ensures { IfOk result (λ x. is_name x ≡ true) }
+{
     Ok(Name::read(alloc, text)?.ok_or("a name")?)
 }
 

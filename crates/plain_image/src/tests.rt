@@ -1,6 +1,8 @@
 //! What no clause says: that the calls succeed where memory is left, and what two models weigh and take.
 ghost use Rattle.std.specs.Prelude.{◌≡◌, ◌≤◌, map, true, IfOk, IsTrue};
 ghost use Rattle.rup_base.specs.Gather.{all_true};
+ghost use Rattle.rup_base.specs.Name.{is_name};
+ghost use Rattle.model_syntax.specs.Formed.{expr_formed, param_formed, ret_formed, stmt_formed};
 ghost use Rattle.model_syntax.specs.Spelling.{expr_spellable, stmt_spellable};
 ghost use Rattle.deriv_tree.specs.Measure.{expr_size, stmt_size, block_size};
 ghost use Rattle.deriv_tree.specs.Shape.{IsWhole, expr_shaped, stmt_shaped, block_shaped};
@@ -14,12 +16,16 @@ use rup_base::{Box, List, Name, NoMemory};
 use std::alloc::Global;
 use std::test::Fail as Failed;
 
-fn name(alloc: Global, text: &[u8]) -> Result<Name, Failed> {
+fn name(alloc: Global, text: &[u8]) -> Result<Name, Failed>
+    ensures { IfOk result (λ x. is_name x ≡ true) }
+{
     Ok(Name::read(alloc, text)?.ok_or("a name")?)
 }
 
 /// `(params (x word) (y word))`
-fn two_words(alloc: Global) -> Result<List<Param>, Failed> {
+fn two_words(alloc: Global) -> Result<List<Param>, Failed>
+    ensures { IfOk result (λ params. all_true (map param_formed params) ≡ true) }
+{
     let mut params = List::new(alloc);
     params.push(Param::Word(name(alloc, b"x")?))?;
     params.push(Param::Word(name(alloc, b"y")?))?;
@@ -28,7 +34,8 @@ fn two_words(alloc: Global) -> Result<List<Param>, Failed> {
 
 /// `(add x y)`
 fn sum(alloc: Global) -> Result<Expr, Failed>
-    ensures { IfOk result (λ e. IsTrue (expr_spellable e)) }
+    ensures spellable { IfOk result (λ e. IsTrue (expr_spellable e)) }
+    ensures formed { IfOk result (λ e. expr_formed e ≡ true) }
 {
     let x = Box::new(alloc, Expr::Var(name(alloc, b"x")?))?;
     let y = Box::new(alloc, Expr::Var(name(alloc, b"y")?))?;
@@ -37,8 +44,10 @@ fn sum(alloc: Global) -> Result<Expr, Failed>
 
 /// `(do (let z e))`
 fn let_z(alloc: Global, e: Expr) -> Result<List<Stmt>, Failed>
-    requires { IsTrue (expr_spellable e) }
-    ensures { IfOk result (λ body. IsTrue (all_true (map stmt_spellable body))) }
+    requires spellable { IsTrue (expr_spellable e) }
+    requires formed { expr_formed e ≡ true }
+    ensures spellable { IfOk result (λ body. IsTrue (all_true (map stmt_spellable body))) }
+    ensures formed { IfOk result (λ body. all_true (map stmt_formed body) ≡ true) }
 {
     let mut body = List::new(alloc);
     body.push(Stmt::Let(name(alloc, b"z")?, e))?;
@@ -46,7 +55,9 @@ fn let_z(alloc: Global, e: Expr) -> Result<List<Stmt>, Failed>
 }
 
 /// `(ret z)`
-fn ret_z(alloc: Global) -> Result<List<Ret>, Failed> {
+fn ret_z(alloc: Global) -> Result<List<Ret>, Failed>
+    ensures { IfOk result (λ rets. all_true (map ret_formed rets) ≡ true) }
+{
     let mut rets = List::new(alloc);
     rets.push(Ret::Scalar(name(alloc, b"z")?))?;
     Ok(rets)
@@ -54,7 +65,9 @@ fn ret_z(alloc: Global) -> Result<List<Ret>, Failed> {
 
 /// `(model m (params ..) (require) (do (let z e)) (ret z))`
 fn typed(alloc: Global, params: List<Param>, e: Expr) -> Result<Typed, Failed>
-    requires { IsTrue (expr_spellable e) }
+    requires params { all_true (map param_formed params) ≡ true }
+    requires spellable { IsTrue (expr_spellable e) }
+    requires formed { expr_formed e ≡ true }
 {
     let model = Model {
         name: name(alloc, b"m")?,

@@ -1,6 +1,8 @@
 //! What no clause says: that the calls succeed where memory is left, and what the sum of two arguments weighs.
 ghost use Rattle.std.specs.Prelude.{◌≡◌, map, true, IfOk, IsTrue};
 ghost use Rattle.rup_base.specs.Gather.{all_true};
+ghost use Rattle.rup_base.specs.Name.{is_name};
+ghost use Rattle.model_syntax.specs.Formed.{expr_formed, param_formed, ret_formed, stmt_formed};
 ghost use Rattle.model_syntax.specs.Spelling.{expr_spellable, stmt_spellable};
 ghost use Rattle.deriv_tree.specs.Measure.{expr_size, stmt_size, block_size};
 ghost use Rattle.deriv_tree.specs.Shape.{IsWhole, expr_shaped, stmt_shaped, block_shaped};
@@ -13,12 +15,16 @@ use rup_base::{Box, List, Name, NoMemory};
 use std::alloc::Global;
 use std::test::Fail as Failed;
 
-fn name(alloc: Global, text: &[u8]) -> Result<Name, Failed> {
+fn name(alloc: Global, text: &[u8]) -> Result<Name, Failed>
+    ensures { IfOk result (λ x. is_name x ≡ true) }
+{
     Ok(Name::read(alloc, text)?.ok_or("a name")?)
 }
 
 /// `(params (x word) (y word))`
-fn params(alloc: Global) -> Result<List<Param>, Failed> {
+fn params(alloc: Global) -> Result<List<Param>, Failed>
+    ensures { IfOk result (λ params. all_true (map param_formed params) ≡ true) }
+{
     let mut params = List::new(alloc);
     params.push(Param::Word(name(alloc, b"x")?))?;
     params.push(Param::Word(name(alloc, b"y")?))?;
@@ -27,7 +33,8 @@ fn params(alloc: Global) -> Result<List<Param>, Failed> {
 
 /// `(add x y)`
 fn sum(alloc: Global) -> Result<Expr, Failed>
-    ensures { IfOk result (λ e. IsTrue (expr_spellable e)) }
+    ensures spellable { IfOk result (λ e. IsTrue (expr_spellable e)) }
+    ensures formed { IfOk result (λ e. expr_formed e ≡ true) }
 {
     let x = Box::new(alloc, Expr::Var(name(alloc, b"x")?))?;
     let y = Box::new(alloc, Expr::Var(name(alloc, b"y")?))?;
@@ -36,7 +43,8 @@ fn sum(alloc: Global) -> Result<Expr, Failed>
 
 /// `(do (let z (add x y)))`
 fn body(alloc: Global) -> Result<List<Stmt>, Failed>
-    ensures { IfOk result (λ body. IsTrue (all_true (map stmt_spellable body))) }
+    ensures spellable { IfOk result (λ body. IsTrue (all_true (map stmt_spellable body))) }
+    ensures formed { IfOk result (λ body. all_true (map stmt_formed body) ≡ true) }
 {
     let mut body = List::new(alloc);
     body.push(Stmt::Let(name(alloc, b"z")?, sum(alloc)?))?;
@@ -44,7 +52,9 @@ fn body(alloc: Global) -> Result<List<Stmt>, Failed>
 }
 
 /// `(ret z)`
-fn rets(alloc: Global) -> Result<List<Ret>, Failed> {
+fn rets(alloc: Global) -> Result<List<Ret>, Failed>
+    ensures { IfOk result (λ rets. all_true (map ret_formed rets) ≡ true) }
+{
     let mut rets = List::new(alloc);
     rets.push(Ret::Scalar(name(alloc, b"z")?))?;
     Ok(rets)

@@ -10,3 +10,4 @@ pub mod Loaded
 pub mod Served
 pub mod Shapes
 pub mod Likeness
+pub mod Exact

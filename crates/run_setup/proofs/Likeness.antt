@@ -29,12 +29,15 @@ use Rattle.model_syntax.specs.declared.program.Param.TheVariants as param
 use Rattle.model_syntax.specs.declared.program.Ret.{Ret}
 use Rattle.model_syntax.specs.declared.program.Ret.TheVariants as ret
 use Rattle.model_syntax.specs.declared.program.Model.{Model}
+use Rattle.model_syntax.proofs.laws.Answered.{first_answered, at_answered, answer_is}
+use Rattle.model_syntax.proofs.laws.Arrays.{and_parts}
+use Rattle.model_syntax.proofs.laws.Bindings.{same_is, same_self, value_here, value_else, up_else, up_here}
 use Rattle.run_setup.specs.Arguments.{array_limit}
 use Rattle.run_setup.specs.Judging.{size_of, total_size}
 use Rattle.run_setup.specs.Good.{name_of, number_among, result_place}
-use Rattle.run_setup.proofs.Symbols.{first_answered, same_self, same_is, value_here, value_else, up_else, up_here, among_before, among_last, among_none, none_before, declare_is, registers_is, AllFit}
-use Rattle.run_setup.proofs.Meeting.{at_answered, fit_all, counts_ok}
-use Rattle.run_setup.proofs.Shapes.{answer_is, and_parts, type_same, HasShape, array_of, len_of, Shaped, body_keeps}
+use Rattle.run_setup.proofs.Symbols.{among_before, among_last, among_none, none_before, declare_is, registers_is, AllFit}
+use Rattle.run_setup.proofs.Meeting.{fit_all, counts_ok}
+use Rattle.run_setup.proofs.Shapes.{type_same, HasShape, array_of, len_of, Shaped, body_keeps}
 
 -- an array has the kind and the length of another
 abbrev pub IsLike : Arg → Arg → Type 0

@@ -8,8 +8,6 @@ use Rattle.rup_base.specs.declared.arg.Arg.{Arg}
 use Rattle.rup_base.specs.declared.refusal.ArgFault.TheVariants as fault
 use Rattle.rup_base.specs.declared.refusal.Refusal.{Refusal}
 use Rattle.rup_base.specs.declared.refusal.Refusal.TheVariants.{BadArguments}
-use Rattle.rup_base.specs.declared.refusal.TypePlace.{TypePlace}
-use Rattle.rup_base.specs.declared.refusal.TypeWhy.{TypeWhy}
 use Rattle.rup_base.specs.declared.refusal.TypeWhy.TheVariants as why
 use Rattle.rup_base.specs.Answers.{and_then}
 use Rattle.side_certs.specs.LinearForm.{LinearForm, value_at}
@@ -32,13 +30,14 @@ use Rattle.model_syntax.specs.declared.stmt.Lin.TheOpen as l
 use Rattle.model_syntax.specs.declared.stmt.Le.{Le}
 use Rattle.model_syntax.specs.declared.program.Param.{Param}
 use Rattle.model_syntax.specs.declared.program.Model.{Model}
+use Rattle.model_syntax.proofs.laws.Answered.{first_answered, at_answered}
 use Rattle.run_setup.specs.Arguments.{array_limit}
 use Rattle.run_setup.specs.Judging.{total_size, by_symbol, holds, symbol_values, judged_count, judged_kinds, judged_size, judged_requirements, judged}
 use Rattle.run_setup.specs.Good.{entry_names, number_among, side, side_step, requirement}
 use Rattle.run_setup.specs.Laws.{JudgedIsMet}
 use Rattle.run_setup.proofs.Forms.{sum_value, multiple_value, constant_value, symbol_value, difference_test}
 use Rattle.run_setup.proofs.Places.{and_ok, count_ok, size_ok}
-use Rattle.run_setup.proofs.Symbols.{first_answered, Stand, AllFit, start_stands}
+use Rattle.run_setup.proofs.Symbols.{Stand, AllFit, start_stands}
 
 -- Requirements.
 
@@ -46,10 +45,6 @@ scalar_is : (found : Option NameType) (t : Scalar) → scalar_in found ≡ Ok t 
 scalar_is None t is = absurd (cc)
 scalar_is (Some (One u)) t is = cc
 scalar_is (Some (Many u k)) t is = absurd (cc)
-
-pub at_answered : {A : Type 0} (place : TypePlace) (found : Result A TypeWhy) (a : A) → types.at place found ≡ Ok a → found ≡ Ok a
-at_answered place (Ok b) a is = cc
-at_answered place (Err why) a is = absurd (cc)
 
 module _ (c : Scope) (env : Env) (names : List Name) (values : List ℕ) (stands : Stand c env names values) where
   abbrev IsValued : Lin → Type 0

@@ -19,7 +19,9 @@ use Rattle.image_layout.specs.Spelling as image
 use Rattle.image_layout.specs.Spelling.{registers_of}
 use Rattle.model_syntax.specs.declared.program.Model.{Model}
 use Rattle.model_syntax.specs.Kinds.{is_of_kind}
-use Rattle.model_syntax.specs.Value.{Meets, value, results}
+use Rattle.model_syntax.specs.Sound.{end_scope}
+use Rattle.model_syntax.specs.Value.{Meets, value, results, start as start_env}
+use Rattle.model_syntax.proofs.laws.Models.{models_sound}
 use Rattle.rv_machine.specs.State.{State, register}
 use Rattle.rv_memory.specs.Ranges.{Bytes, Stands}
 use Rattle.rv_machine.specs.Step.{then_step, step, after}
@@ -33,9 +35,10 @@ use Rattle.run_setup.specs.Results.{bytes_at, array_at, place_of, results_from, 
 use Rattle.run_setup.specs.Digits.{two_digits}
 use Rattle.run_setup.specs.Ready.{array_bytes}
 use Rattle.run_setup.specs.Good.{register_of, HasResults}
-use Rattle.run_setup.specs.Laws.{HasWords, GoodIsServed, step_limit}
+use Rattle.run_setup.specs.Laws.{GoodIsServed, step_limit}
 use Rattle.run_setup.proofs.Places.{words_size}
 use Rattle.run_setup.proofs.Meeting.{AllOfKind, fitting}
+use Rattle.run_setup.proofs.Exact.{HasWords, results_fit}
 use Rattle.run_setup.proofs.Likeness.{IsLike, AreLike, results_like}
 use Rattle.run_setup.proofs.Loaded.{Hold, first_held, rest_held, rest_held_2, no_fit, registers_hold, ra_is, loaded_is_ready}
 
@@ -283,5 +286,7 @@ good_is_served m i args end t well limits good meets small numbers few ran =
       steps = done.0.0;
       returned = done.0.1;
       printed = ap (λ (v : State). lines_of (results_of v i args)) done.1 ∙ results_printed i args s r.end fit (registers_hold i args limits fit small) i.rets (results m args) 10 has like;
-      same = λ words_fit. ap (λ (v : State). results_of v i args) done.1 ∙ results_read i args s r.end fit (registers_hold i args limits fit small) i.rets (results m args) 10 has like words_fit;
+      same = λ formed spellable.
+          let words_fit = results_fit (end_scope m) (start_env m.params args []) m.rets (results m args) (models_sound m args well formed spellable meets) in
+          ap (λ (v : State). results_of v i args) done.1 ∙ results_read i args s r.end fit (registers_hold i args limits fit small) i.rets (results m args) 10 has like words_fit;
     }

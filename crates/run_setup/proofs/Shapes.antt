@@ -1,5 +1,5 @@
 -- The statements of a well typed model keep the kinds and lengths of arrays.
-use Rattle.std.proofs.Common.{◌≡◌, refl, sym, ◌∙◌, ap, subst, ℕ, ◌%◌, Bool, true, false, ◌&&◌, List, [], ◌∷◌, length, map, set, length-set, Option, Some, None, Result, Ok, Err, if◌then◌else◌}
+use Rattle.std.proofs.Common.{◌≡◌, refl, sym, ◌∙◌, ap, subst, ℕ, ◌%◌, Bool, true, false, List, [], ◌∷◌, length, map, set, length-set, Option, Some, None, Result, Ok, Err, if◌then◌else◌}
 use Rattle.std.proofs.lemmas.List.{length-map}
 use Rattle.std.proofs.lemmas.Bool.{eqb-true}
 use Rattle.rup_base.specs.declared.arg.Arg.{Arg}
@@ -26,13 +26,11 @@ use Rattle.model_syntax.specs.declared.stmt.Stmt.{Stmt, Stmt-F, ind-Stmt, map-St
 use Rattle.model_syntax.specs.declared.stmt.Stmt.TheOpen as s
 use Rattle.model_syntax.specs.declared.program.Len.{Len}
 use Rattle.model_syntax.specs.declared.program.Len.TheVariants.{Fixed, Named}
-use Rattle.run_setup.proofs.Symbols.{first_answered, same_is, value_here, value_else, up_else, up_here}
-use Rattle.run_setup.proofs.Meeting.{at_answered}
+use Rattle.model_syntax.proofs.laws.Answered.{first_answered, at_answered, answer_is}
+use Rattle.model_syntax.proofs.laws.Arrays.{and_parts}
+use Rattle.model_syntax.proofs.laws.Bindings.{same_is, value_here, value_else, up_else, up_here}
 
 -- Types.
-
-pub answer_is : {A E : Type 0} (a b : A) → ◌≡◌ {A = Result A E} (Ok a) (Ok b) → a ≡ b
-answer_is a b is = cc
 
 some_is : {A : Type 0} (a b : A) → Some a ≡ Some b → a ≡ b
 some_is a b is = cc
@@ -62,11 +60,6 @@ length_same (Fixed n) (Fixed m) is = ap Fixed (eqb-true n m is)
 length_same (Named x) (Named y) is = ap Named (same_is x y is)
 length_same (Fixed n) (Named y) is = absurd (cc)
 length_same (Named x) (Fixed m) is = absurd (cc)
-
-pub and_parts : (a b : Bool) → (a && b) ≡ true → (a ≡ true) × (b ≡ true)
-and_parts true true is = (refl, refl)
-and_parts true false is = absurd (cc)
-and_parts false b is = absurd (cc)
 
 pub type_same : (t u : NameType) → same_type t u ≡ true → t ≡ u
 type_same (One t) (One u) is = ap One (scalar_same t u is)

@@ -1,14 +1,11 @@
 -- At the start of a call the entry symbols have the values of the names that they stand for.
 use Rattle.std.proofs.Common.{◌≡◌, refl, sym, ◌∙◌, ap, arith, ℕ, ◌+◌, ◌<◌, ◌≤◌, nat_le, Bool, true, false, List, [], ◌∷◌, ◌++◌, length, map, get_or, Option, Some, None, Result, Ok, Err, if◌then◌else◌, append_assoc, length-append}
-use Rattle.std.specs.Option.{option_or}
 use Rattle.std.proofs.lemmas.List.{append-nil, get_or_append_left}
 use Rattle.std.proofs.Math.Seq.{get_or-append_seam}
-use Rattle.std.proofs.lemmas.Slice.Eq.{bytes_eq-Decides as bytes_decides}
 use Rattle.rup_base.specs.declared.arg.Arg.{Arg}
 use Rattle.rup_base.specs.declared.arg.Arg.TheVariants as arg
 use Rattle.rup_base.specs.declared.refusal.TypeWhy.{TypeWhy}
 use Rattle.rup_base.specs.declared.refusal.TypeWhy.TheVariants as why
-use Rattle.model_syntax.specs.Answer.{◌>>=◌}
 use Rattle.model_syntax.specs.Environment.{Env, value_of, put, size}
 use Rattle.model_syntax.specs.Names.{Name, same}
 use Rattle.model_syntax.specs.Scope.{Scope, look_up, bind}
@@ -23,52 +20,11 @@ use Rattle.model_syntax.specs.declared.program.Len.{Len}
 use Rattle.model_syntax.specs.declared.program.Len.TheVariants.{Fixed, Named}
 use Rattle.model_syntax.specs.declared.program.Param.{Param}
 use Rattle.model_syntax.specs.declared.program.Param.TheVariants as param
+use Rattle.model_syntax.proofs.laws.Answered.{first_answered, answer_is}
+use Rattle.model_syntax.proofs.laws.Bindings.{same_is, value_here, value_else, up_else, up_here}
 use Rattle.run_setup.specs.Arguments.{array_limit}
 use Rattle.run_setup.specs.Judging.{size_of, total_size, symbols_of, symbol_values}
 use Rattle.run_setup.specs.Good.{entry_names, number_among}
-
--- Questions in turn that were answered.
-
-pub first_answered : {A B E : Type 0} (first : Result A E) (second : A → Result B E) (b : B) → (first >>= second) ≡ Ok b → (a : A) × ((first ≡ Ok a) × (second a ≡ Ok b))
-first_answered (Ok a) second b is = (a, (refl, is))
-first_answered (Err why) second b is = absurd (cc)
-
-answer_is : {A E : Type 0} (a b : A) → ◌≡◌ {A = Result A E} (Ok a) (Ok b) → a ≡ b
-answer_is a b is = cc
-
--- Names.
-
-pub same_is : (x y : Name) → same x y ≡ true → x ≡ y
-same_is x y = (bytes_decides x y).0
-
-pub same_self : (x : Name) → same x x ≡ true
-same_self x = (bytes_decides x x).1 refl
-
-not_both : (b x y : Name) → same b x ≡ true → same x y ≡ false → same b y ≡ false
-not_both b x y at_x apart = ap (λ z. same z y) (same_is b x at_x) ∙ apart
-
-pub value_here : (x : Name) (v : Arg) (env : Env) → value_of (put x v env) x ≡ Some v
-value_here x v [] = rw (same_self x) refl
-value_here x v (h ∷ hs) = by (same h.name x) refl (value_here x v hs) where
-  by : (is : Bool) → same h.name x ≡ is → value_of (put x v hs) x ≡ Some v → value_of (put x v (h ∷ hs)) x ≡ Some v
-  by true is more = rw is (rw (same_self x) refl)
-  by false is more = rw is (rw is more)
-
-pub value_else : (x y : Name) (v : Arg) (env : Env) → same x y ≡ false → value_of (put x v env) y ≡ value_of env y
-value_else x y v [] apart = rw apart refl
-value_else x y v (h ∷ hs) apart = by (same h.name x) refl (same h.name y) refl (value_else x y v hs apart) where
-  by : (is : Bool) → same h.name x ≡ is → (of : Bool) → same h.name y ≡ of → value_of (put x v hs) y ≡ value_of hs y → value_of (put x v (h ∷ hs)) y ≡ value_of (h ∷ hs) y
-  by true is of at more = let far : same h.name y ≡ false = not_both h.name x y is apart in rw is (rw apart (rw far refl))
-  by false is true at more = rw is (rw at refl)
-  by false is false at more = rw is (rw at more)
-
-pub up_else : (sc : Scope) (x y : Name) (t : NameType) → same x y ≡ false → look_up (bind x t sc) y ≡ look_up sc y
-up_else [] x y t apart = rw apart refl
-up_else (b ∷ bs) x y t apart = ap (λ z. option_or z (if same b.name y then Some b.shape else None)) (up_else bs x y t apart)
-
-pub up_here : (sc : Scope) (x y : Name) (t : NameType) → same x y ≡ true → look_up (bind x t sc) y ≡ Some t
-up_here [] x y t is = rw is refl
-up_here (b ∷ bs) x y t is = ap (λ z. option_or z (if same b.name y then Some b.shape else None)) (up_here bs x y t is)
 
 -- the number of a name among more names
 pub among_before : (x y : Name) (names : List Name) → number_among x names < length names → number_among x (names ++ y ∷ []) ≡ number_among x names

@@ -1,12 +1,12 @@
 -- What holds of images and the models whose parameters, requirements and results they have.
-use Rattle.std.specs.Prelude.{◌≡◌, ℕ, ◌≤◌, ◌<◌, ◌^◌, ◌↔◌, List, map, min, Ok, ⊤}
-use Rattle.std.specs.List.{AllByRecursion}
+use Rattle.std.specs.Prelude.{◌≡◌, true, ℕ, ◌≤◌, ◌↔◌, List, map, min, Ok}
 use Rattle.rup_base.specs.declared.arg.Arg.{Arg}
-use Rattle.rup_base.specs.declared.arg.Arg.TheVariants as arg
 use Rattle.cost_poly.specs.Polynomial.{at}
 use Rattle.image_layout.specs.declared.image.Image.{Image}
 use Rattle.image_layout.specs.Spelling.{IsWithinLimits}
 use Rattle.model_syntax.specs.declared.program.Model.{Model}
+use Rattle.model_syntax.specs.Formed.{model_formed}
+use Rattle.model_syntax.specs.Spelling.{Spellable}
 use Rattle.model_syntax.specs.Types.{Well, kind_of}
 use Rattle.model_syntax.specs.Value.{Meets, results}
 use Rattle.rv_machine.specs.State.{State}
@@ -40,21 +40,17 @@ LoadedIsReady = (m : Model) (i : Image) (args : List Arg) → IsWithinLimits i �
 abbrev pub ReturnedIsMachine : Type 0
 ReturnedIsMachine = (m : Model) (i : Image) (args : List Arg) (start : ℕ) (s : State) → Ready m i args start s → (r : Returns m i args start s) → IsMachine r.end
 
--- the elements of an array of words are words
-abbrev pub HasWords : Arg → Type 0
-HasWords (arg.Words words) = AllByRecursion (λ n. n < 2 ^ 32) words
-HasWords result = ⊤
-
--- the run ended at the stop address, and its results are printed as these; they are these where these are of words
-pub record Serves (i : Image) (args results : List Arg) (end : End) (s : State) : Type 0 where
+-- the run ended at the stop address, and its results are printed as those of a model; they are the model's where it is
+-- formed, so that its numbers have their ends
+pub record Serves (m : Model) (i : Image) (args : List Arg) (end : End) (s : State) : Type 0 where
   pub steps : ℕ
   pub returned : end ≡ Returned steps
-  pub printed : lines_of (results_of s i args) ≡ lines_of results
-  pub same : AllByRecursion HasWords results → results_of s i args ≡ results
+  pub printed : lines_of (results_of s i args) ≡ lines_of (results m args)
+  pub same : model_formed m ≡ true → Spellable m → results_of s i args ≡ results m args
 
 -- the run of a good image with arguments that meet its model, which is well typed, and give a bound of at most 10^9
 -- returns, and its results are printed as the model's
 abbrev pub GoodIsServed : Type 0
 GoodIsServed = (m : Model) (i : Image) (args : List Arg) (end : End) (s : State) → Well m → IsWithinLimits i → Good m i → Meets m args → total_size args ≤ array_limit
     → IsMachine (start_state i args) → at (symbol_values i.params args) i.bound ≤ step_limit
-    → Ran return_address (min (at (symbol_values i.params args) i.bound) step_limit) (start_state i args) end s → Serves i args (results m args) end s
+    → Ran return_address (min (at (symbol_values i.params args) i.bound) step_limit) (start_state i args) end s → Serves m i args end s

@@ -1,6 +1,5 @@
 pub mod Scripts
 pub mod Taking
-pub mod Parameters
 pub mod Runs
 pub mod Judging
 pub mod Ways

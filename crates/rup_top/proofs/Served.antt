@@ -131,7 +131,7 @@ written script bytes files out notes status held (inr ended) told undisturbed co
 module _ (files : List (List ℕ × List ℕ)) (image : List ℕ) (texts : List (List ℕ)) (given : CallsGood (Some files) image texts) where
   returned_writes : (a : Answer) → RunEnds given.i given.args (start_state given.i given.args) a → Writes (lines_of (results given.m given.args)) a
   returned_writes a ends =
-      let served : Serves given.i given.args (results given.m given.args) ends.end ends.state =
+      let served : Serves given.m given.i given.args ends.end ends.state =
       good_is_served given.m given.i given.args ends.end ends.state given.well ends.limits given.good given.meets given.small ends.machine given.in_time ends.ran in
       let is = ends.answer_is ∙ ap (λ (e : End). run_answer given.i given.args e ends.state) served.returned in
       record { status_is = ap (λ (x : Answer). x.status) is; out_is = ap (λ (x : Answer). x.out) is ∙ served.printed }

@@ -1,10 +1,10 @@
 // Numbers of two and four bytes, the lowest byte first: with one look-up where one region holds them all, and else
 // byte by byte.
 
-ghost use Rattle.std.specs.Prelude.{◌≡◌, ℕ, ◌+◌, ◌^◌, ◌<◌, ◌≤◌, Some, length, is_some, if◌then◌else◌};
+ghost use Rattle.std.specs.Prelude.{◌≡◌, ℕ, ◌+◌, ◌^◌, ◌<◌, ◌≤◌, Some, length, is_some};
 ghost use Rattle.rv_memory.specs.Bytes.{AreDisjoint};
-ghost use Rattle.rv_memory.specs.Contents.{contents, parts};
-ghost use Rattle.rv_memory.specs.Numbers.{number_at, with_number, number_in, with_number_in};
+ghost use Rattle.rv_memory.specs.Contents.{contents, parts, stored_if};
+ghost use Rattle.rv_memory.specs.Numbers.{number_at, number_in, with_number_in};
 
 use crate::region::{Region, find, read, write};
 
@@ -43,7 +43,7 @@ pub fn write_two(regions: &mut [Region], at: usize, value: u16) -> bool
     requires apart { AreDisjoint (parts regions.old) }
     requires below { at < 2 ^ 32 }
     ensures found { result ≡ is_some (number_at (contents regions.old) 2 at) }
-    ensures value { contents regions.new ≡ (if result then with_number (contents regions.old) 2 at value else contents regions.old) }
+    ensures value { contents regions.new ≡ stored_if result 2 regions.old at value }
     ensures apart { AreDisjoint (parts regions.new) }
 {
     let Some(i) = find(regions, at) else {
@@ -63,7 +63,7 @@ pub fn write_four(regions: &mut [Region], at: usize, value: u32) -> bool
     requires apart { AreDisjoint (parts regions.old) }
     requires below { at < 2 ^ 32 }
     ensures found { result ≡ is_some (number_at (contents regions.old) 4 at) }
-    ensures value { contents regions.new ≡ (if result then with_number (contents regions.old) 4 at value else contents regions.old) }
+    ensures value { contents regions.new ≡ stored_if result 4 regions.old at value }
     ensures apart { AreDisjoint (parts regions.new) }
 {
     let Some(i) = find(regions, at) else {
@@ -144,7 +144,7 @@ fn scatter_two(regions: &mut [Region], at: usize, value: u16) -> bool
     requires apart { AreDisjoint (parts regions.old) }
     requires below { at < 2 ^ 32 }
     ensures found { result ≡ is_some (number_at (contents regions.old) 2 at) }
-    ensures value { contents regions.new ≡ (if result then with_number (contents regions.old) 2 at value else contents regions.old) }
+    ensures value { contents regions.new ≡ stored_if result 2 regions.old at value }
     ensures apart { AreDisjoint (parts regions.new) }
 {
     if gather_two(regions, at).is_none() {
@@ -159,7 +159,7 @@ fn scatter_four(regions: &mut [Region], at: usize, value: u32) -> bool
     requires apart { AreDisjoint (parts regions.old) }
     requires below { at < 2 ^ 32 }
     ensures found { result ≡ is_some (number_at (contents regions.old) 4 at) }
-    ensures value { contents regions.new ≡ (if result then with_number (contents regions.old) 4 at value else contents regions.old) }
+    ensures value { contents regions.new ≡ stored_if result 4 regions.old at value }
     ensures apart { AreDisjoint (parts regions.new) }
 {
     if gather_four(regions, at).is_none() {

@@ -2,7 +2,7 @@ use Rattle.std.proofs.Common.{◌≡◌, ◌%◌, bit_and, if◌then◌else◌, 
 use Rattle.std.proofs.lemmas.Grind.{common_steps}
 use Rattle.bed_syntax.specs.declared.operation.Size.TheVariants as sizes
 use Rattle.rv_memory.specs.Numbers.{with_number}
-use Rattle.rv_memory.proofs.laws.Low.{with_number_low}
+use Rattle.rv_memory.proofs.laws.Numbers.{with_number_low}
 use Rattle.bed_meaning.specs.Access.{store}
 use Rattle.bed_meaning.proofs.Numbers.{store_done}
 use Rattle.bed_meaning.proofs.access.save.Goals as goal

@@ -1,7 +1,7 @@
 use Rattle.std.proofs.Common.{◌≡◌, ◌%◌, if◌then◌else◌, bit_and, ◌∙◌, ap, arith}
 use Rattle.std.proofs.lemmas.Grind.{common_steps}
 use Rattle.rv_machine.specs.State.{with_number}
-use Rattle.rv_memory.proofs.laws.Low.{with_number_low}
+use Rattle.rv_memory.proofs.laws.Numbers.{with_number_low}
 use Rattle.rv_machine.proofs.access.write_half.Goals as goal
 
 pub returns-clause-value : goal.returns-clause-value

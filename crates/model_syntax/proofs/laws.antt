@@ -1,6 +1,9 @@
 pub mod Answered
+pub mod Arguments
 pub mod Arrays
 pub mod Bindings
 pub mod Expressions
+pub mod Models
 pub mod Numbers
 pub mod Parameters
+pub mod Statements

@@ -8,6 +8,7 @@ mod limits;
 mod names;
 mod program;
 mod scope;
+mod soundness;
 mod stmt;
 
 pub use copy::copy_expr;
@@ -17,6 +18,9 @@ pub use limits::{block_depth, expression_depth, over_limit, statements, table_by
 pub use names::{first_names, is_declared};
 pub use program::{Len, Model, Param, Ret};
 pub use scope::{Binding, Entry, Linear, NameType, Term};
+pub use soundness::{
+    expressions_are_sound, models_are_sound, nothing_is_cut, statements_are_sound,
+};
 pub use stmt::{Le, Lin, Stmt};
 
 #[cfg(test)]

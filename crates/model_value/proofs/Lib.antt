@@ -3,3 +3,4 @@ pub mod Turns
 pub mod Formed
 pub mod Sides
 pub mod Elements
+pub mod Soundness

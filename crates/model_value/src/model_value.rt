@@ -1,6 +1,7 @@
 //! The value of a model at arguments.
 ghost use Rattle.std.specs.Prelude.{◌≡◌, map, IfOk};
 ghost use Rattle.rup_base.specs.Answers.{Answers};
+ghost use Rattle.model_syntax.specs.Sound.{IsSound};
 ghost use Rattle.model_syntax.specs.Value as spec;
 ghost use Rattle.model_value.specs.Refused.{refused};
 
@@ -14,9 +15,17 @@ use rup_base::{Arg, ArgFault, Args, Fail, List, NoMemory, Refusal, Results};
 use std::alloc::Global;
 
 /// The results of a model at arguments, in order. `BadArguments` says that their number is another than that of the
-/// parameters, else which argument does not fit its parameter, else which requirement they do not meet.
-#[tactic(auto, using(crate::proofs::Formed::well_formed))]
+/// parameters, else which argument does not fit its parameter, else which requirement they do not meet. The results are
+/// of their kinds: words below 2^32, bytes below 2^8, flags 0 or 1, and arrays as long as their parameters' arguments.
 pub fn value(alloc: Global, m: &Typed, args: &Args) -> Result<Results, Fail>
+    ensures value { Answers result (spec.value m.now.inner args.now) }
+    ensures sound { IfOk result (λ found. IsSound m.now.inner args.now found) }
+{
+    evaluate(alloc, m, args)
+}
+
+#[tactic(auto, using(crate::proofs::Formed::well_formed))]
+fn evaluate(alloc: Global, m: &Typed, args: &Args) -> Result<Results, Fail>
     ensures { Answers result (spec.value m.now.inner args.now) }
 {
     let model = m.model();

@@ -83,10 +83,10 @@ array_parts Flag n v is = absurd (cc)
 same_number : (n k : ℕ) → k ≡ n → nat_eq n k ≡ true
 same_number n k is = grind (arith, nat_tests)
 
-words_are : (n : ℕ) (ns : List ℕ) → is_word n ≡ true → length ns ≡ n → all_true (map is_word ns) ≡ true → is_array Word n (arg.Words ns) ≡ true
+pub words_are : (n : ℕ) (ns : List ℕ) → is_word n ≡ true → length ns ≡ n → all_true (map is_word ns) ≡ true → is_array Word n (arg.Words ns) ≡ true
 words_are n ns fits many all = and_both (nat_eq n (length ns) && all_true (map is_word ns)) (is_word n) (and_both (nat_eq n (length ns)) (all_true (map is_word ns)) (same_number n (length ns) many) all) fits
 
-bytes_are : (n : ℕ) (ns : List ℕ) → is_word n ≡ true → length ns ≡ n → all_true (map is_byte ns) ≡ true → is_array Byte n (arg.Bytes ns) ≡ true
+pub bytes_are : (n : ℕ) (ns : List ℕ) → is_word n ≡ true → length ns ≡ n → all_true (map is_byte ns) ≡ true → is_array Byte n (arg.Bytes ns) ≡ true
 bytes_are n ns fits many all = and_both (nat_eq n (length ns) && all_true (map is_byte ns)) (is_word n) (and_both (nat_eq n (length ns)) (all_true (map is_byte ns)) (same_number n (length ns) many) all) fits
 
 -- an array with other elements is an array, with all of them as they were given

@@ -75,7 +75,7 @@ table_entries Flag ns formed spelled = absurd (cc)
 
 module _ (numbers : Name → ℕ) (c : Scope) (env : Env) (typed : IsTyped numbers c env) where
   -- a scalar in scope
-  scalar_value : (x : Name) (t : Scalar) → scalar_in (look_up c x) ≡ Ok t → is_number t (number (value_of env x)) ≡ true
+  pub scalar_value : (x : Name) (t : Scalar) → scalar_in (look_up c x) ≡ Ok t → is_number t (number (value_of env x)) ≡ true
   scalar_value x t found =
       let h = typed x (One t) (scalar_is (look_up c x) t found) in
       of_value h.value h.held h.typed

@@ -3,7 +3,9 @@ ghost use Rattle.std.specs.Prelude.{◌≡◌, Some, IfOk};
 ghost use Rattle.model_syntax.specs.declared.expr.Op.TheVariants as op;
 ghost use Rattle.model_syntax.specs.declared.expr.Expr.TheVariants.{Bin, Lit};
 ghost use Rattle.equations.specs.Equations as spec;
+ghost use Rattle.equations.specs.Laws as laws;
 
+use crate::book::Book;
 use crate::sides::{
     copied, is_literal, is_neutral, literal, operation, operation_by, power, same_op,
 };
@@ -193,4 +195,16 @@ fn with_mask(alloc: Global, x: &Expr) -> Result<Option<Expr>, NoMemory>
         Expr::ToByte(e) => Ok(Some(operation_by(alloc, Op::And, e, 255)?)),
         _ => Ok(None),
     }
+}
+
+impl Book for WordBook {
+    ghost turn = { λ _. spec.turn };
+
+    fn apply(&self, alloc: Global, step: u32, e: &Expr) -> Result<Option<Expr>, NoMemory> {
+        turn(alloc, step, e)
+    }
+
+    ghost keeps_meaning = { λ _. laws.keeps_meaning };
+
+    ghost makes_nothing_worse = { λ _. laws.makes_nothing_worse };
 }

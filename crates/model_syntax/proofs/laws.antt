@@ -7,3 +7,4 @@ pub mod Models
 pub mod Numbers
 pub mod Parameters
 pub mod Statements
+pub mod Words

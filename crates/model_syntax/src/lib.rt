@@ -6,6 +6,7 @@ mod expr;
 mod kinds;
 mod limits;
 mod names;
+mod operation;
 mod program;
 mod scope;
 mod soundness;
@@ -16,6 +17,7 @@ pub use expr::{Cmp, Expr, Op, Scalar};
 pub use kinds::is_of_kind;
 pub use limits::{block_depth, expression_depth, over_limit, statements, table_bytes};
 pub use names::{first_names, is_declared};
+pub use operation::{apply, holds};
 pub use program::{Len, Model, Param, Ret};
 pub use scope::{Binding, Entry, Linear, NameType, Term};
 pub use soundness::{

@@ -3,8 +3,7 @@ ghost use Rattle.std.specs.Prelude.{◌≡◌};
 ghost use Rattle.model_syntax.specs.Value.{eval};
 
 use crate::environment::{element, number, size, value_of, word_at};
-use crate::operation::{apply, holds};
-use model_syntax::{Binding, Expr};
+use model_syntax::{Binding, Expr, apply, holds};
 
 /// The value of an expression in an environment. A flag is 1 where it is true and 0 where it is false.
 pub fn eval(e: &Expr, env: &[Binding]) -> u32

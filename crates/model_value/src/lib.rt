@@ -6,7 +6,6 @@ mod environment;
 mod evaluation;
 mod execution;
 mod model_value;
-mod operation;
 mod requirements;
 
 pub use model_value::value;

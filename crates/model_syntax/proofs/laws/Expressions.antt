@@ -50,7 +50,7 @@ wanted_is Byte (Ok Flag) u is = absurd (cc)
 wanted_is Flag (Ok Word) u is = absurd (cc)
 wanted_is Flag (Ok Byte) u is = absurd (cc)
 
-both_are : (t : Scalar) (one two : Typing) (u : Scalar) → both_wanted t one two ≡ Ok u → (one ≡ Ok t) × ((two ≡ Ok t) × (u ≡ t))
+pub both_are : (t : Scalar) (one two : Typing) (u : Scalar) → both_wanted t one two ≡ Ok u → (one ≡ Ok t) × ((two ≡ Ok t) × (u ≡ t))
 both_are t one two u is =
     let first = first_answered (wanted t one) _ u is in
     let second = wanted_is t two u first.1.1 in
@@ -92,12 +92,12 @@ module _ (numbers : Name → ℕ) (c : Scope) (env : Env) (typed : IsTyped numbe
       let h = typed a (Many t k.0) k.1 in
       (length_of numbers k.0, h.value, (h.held, h.typed))
 
-  length_value : (a : Name) (t : Scalar) → element_in (look_up c a) ≡ Ok t → is_word (size (elements (value_of env a))) ≡ true
+  pub length_value : (a : Name) (t : Scalar) → element_in (look_up c a) ≡ Ok t → is_word (size (elements (value_of env a))) ≡ true
   length_value a t found =
       let h = array_value a t found in
       rw h.2.0 (size_whole t h.0 h.1 h.2.1).1
 
-  element_value : (a : Name) (t : Scalar) (i : ℕ) → element_in (look_up c a) ≡ Ok t → is_number t (get_or (elements (value_of env a)) i 0) ≡ true
+  pub element_value : (a : Name) (t : Scalar) (i : ℕ) → element_in (look_up c a) ≡ Ok t → is_number t (get_or (elements (value_of env a)) i 0) ≡ true
   element_value a t i found =
       let h = array_value a t found in
       rw h.2.0 (all_at (is_number t) (elements (Some h.1)) i (zero_number t) (array_parts t h.0 h.1 h.2.1).all)

@@ -2,7 +2,7 @@
 ghost use Rattle.std.specs.Prelude.{◌≡◌, ◌<◌};
 ghost use Rattle.model_syntax.specs.Operation.{apply, holds, shift_signed};
 
-use model_syntax::{Cmp, Op};
+use crate::expr::{Cmp, Op};
 use rup_base::{high_product, signed_less};
 
 /// The result of an operation.

@@ -1,0 +1,5 @@
+pub mod Nodes
+pub mod Fits
+pub mod Words
+pub mod Powers
+pub mod Laws

@@ -5,9 +5,9 @@ use Rattle.std.specs.Option.{option_and_then, option_map}
 use Rattle.std.proofs.lemmas.Option.{none-some, same_Some}
 use Rattle.equations.specs.Book.{SameMeaning, NoWorse, KeepsMeaning, MakesNothingWorse}
 use Rattle.equations.specs.Equations.{Equation, sides, is_neutral, is_literal, literal, power, exchanged, grouped_right, grouped_left, shifted, masked, left_alone, computed, unmasked, byte_of_masked, with_mask, word_of_byte, equations, turn}
-use Rattle.equations.proofs.Fits.{any_is, among_is, sides_are, byte_is, word_is, literal_of, literal_is, mapped, power_is, guarded}
-use Rattle.equations.proofs.Nodes.{at_lit, IsWord, lit_typed, bin_typed, bin_parts, byte_typed, byte_parts, word_parts, eval_lit, eval_bin, eval_word, eval_byte, tables_lit, tables_bin, tables_word, tables_byte, IsWhole, formed_whole, spellable_whole, Holds, parts, joined, lit_holds, byte_holds, word_holds}
-use Rattle.equations.proofs.Words.{Commutes, Associates, add_commutes, mul_commutes, and_commutes, or_commutes, xor_commutes, add_associates, mul_associates, xor_associates, product_shifts, quotient_shifts, remainder_masks, shift_word, mask_word, neutral_word, byte_masks, byte_of_mask}
+use Rattle.equations.specs.laws.Fits.{any_is, among_is, sides_are, byte_is, word_is, literal_of, literal_is, mapped, power_is, guarded}
+use Rattle.equations.specs.laws.Nodes.{at_lit, IsWord, lit_typed, bin_typed, bin_parts, byte_typed, byte_parts, word_parts, eval_lit, eval_bin, eval_word, eval_byte, tables_lit, tables_bin, tables_word, tables_byte, IsWhole, formed_whole, spellable_whole, Holds, parts, joined, lit_holds, byte_holds, word_holds}
+use Rattle.equations.specs.laws.Words.{Commutes, Associates, add_commutes, mul_commutes, and_commutes, or_commutes, xor_commutes, add_associates, mul_associates, xor_associates, product_shifts, quotient_shifts, remainder_masks, shift_word, mask_word, neutral_word, byte_masks, byte_of_mask}
 use Rattle.model_syntax.specs.Environment.{Env}
 use Rattle.model_syntax.specs.ExprType.{type_of}
 use Rattle.model_syntax.specs.Formed.{expr_formed, expr_formed_step}
@@ -276,8 +276,8 @@ all_lawful =
     , (byte_lawful
     , (word_lawful, tt))))))))))))))))))
 
-pub book_keeps_meaning : KeepsMeaning turn
-book_keeps_meaning step left right is formed = (step_lawful equations all_lawful step left right is).meaning formed
+pub keeps_meaning : KeepsMeaning turn
+keeps_meaning step left right is formed = (step_lawful equations all_lawful step left right is).meaning formed
 
-pub book_makes_nothing_worse : MakesNothingWorse turn
-book_makes_nothing_worse step left right is = (step_lawful equations all_lawful step left right is).no_worse
+pub makes_nothing_worse : MakesNothingWorse turn
+makes_nothing_worse step left right is = (step_lawful equations all_lawful step left right is).no_worse

@@ -1,4 +1,4 @@
-use Rattle.std.proofs.Common.{◌≡◌, ◌≤◌}
+use Rattle.std.proofs.Common.{◌≡◌}
 use Rattle.equations.specs.Equations.{exponent}
 use Rattle.equations.specs.laws.Powers.{searched}
 use Rattle.equations.proofs.sides.exponent.Given as goal

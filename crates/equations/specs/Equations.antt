@@ -7,7 +7,7 @@ use Rattle.model_syntax.specs.declared.expr.Op.{Op}
 use Rattle.model_syntax.specs.declared.expr.Op.TheVariants as op
 use Rattle.model_syntax.specs.declared.expr.Expr.{Expr, Expr-F, out-Expr}
 use Rattle.model_syntax.specs.declared.expr.Expr.TheOpen as e
-use Rattle.model_syntax.specs.declared.expr.Expr.TheVariants.{Lit, Bin, ToWord, ToByte}
+use Rattle.model_syntax.specs.declared.expr.Expr.TheVariants.{Lit, Bin, ToByte}
 
 -- what an equation makes of an expression, or none where its left side does not fit
 abbrev pub Equation : Type 0

@@ -3,7 +3,7 @@ ghost use Rattle.std.specs.Prelude.{◌≡◌, Some, IfOk};
 ghost use Rattle.model_syntax.specs.declared.expr.Op.TheVariants as op;
 ghost use Rattle.model_syntax.specs.declared.expr.Expr.TheVariants.{Bin, Lit};
 ghost use Rattle.equations.specs.Equations as spec;
-ghost use Rattle.equations.specs.Laws as laws;
+ghost use Rattle.equations.specs.laws.Kept as laws;
 
 use crate::book::Book;
 use crate::sides::{

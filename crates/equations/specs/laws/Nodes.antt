@@ -1,14 +1,14 @@
 -- What expressions of words are made of: their types, values, tables, and what holds of all that is in them.
-use Rattle.std.proofs.Common.{◌≡◌, refl, sym, ◌∙◌, ap, arith, ℕ, ◌+◌, ◌%◌, ◌≤◌, Bool, true, ◌&&◌, Ok}
+use Rattle.std.proofs.Common.{◌≡◌, refl, sym, ◌∙◌, ap, ℕ, ◌+◌, ◌%◌, Bool, true, ◌&&◌, Ok}
 use Rattle.model_syntax.specs.Answer.{◌>>=◌}
 use Rattle.model_syntax.specs.Environment.{Env}
 use Rattle.model_syntax.specs.ExprType.{Typing, type_of, type_step, wanted, both_wanted, no_word}
-use Rattle.model_syntax.specs.Formed.{expr_formed, expr_formed_step}
+use Rattle.model_syntax.specs.Formed.{expr_formed_step}
 use Rattle.model_syntax.specs.Kinds.{is_word}
 use Rattle.model_syntax.specs.Limits.{expr_tables, expr_tables_step}
 use Rattle.model_syntax.specs.Operation.{apply}
 use Rattle.model_syntax.specs.Scope.{Scope}
-use Rattle.model_syntax.specs.Spelling.{expr_spellable, expr_spellable_step}
+use Rattle.model_syntax.specs.Spelling.{expr_spellable_step}
 use Rattle.model_syntax.specs.Value.{eval, eval_step}
 use Rattle.model_syntax.specs.declared.expr.Expr.{Expr, Expr-F, fold-Expr, fold-roll-Expr}
 use Rattle.model_syntax.specs.declared.expr.Expr.TheOpen as e

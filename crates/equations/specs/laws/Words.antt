@@ -6,7 +6,7 @@ use Rattle.std.proofs.lemmas.Nat.{and_comm, or_comm, xor_comm, and_mask, mul-mod
 use Rattle.std.proofs.Math.Nat.{add_comm, mul_comm, mul_assoc}
 use Rattle.std.proofs.Math.Pow.{pow_mono}
 use Rattle.model_syntax.specs.Kinds.{is_word}
-use Rattle.model_syntax.specs.Operation.{apply, quotient, remainder}
+use Rattle.model_syntax.specs.Operation.{apply, quotient}
 use Rattle.model_syntax.specs.declared.expr.Op.{Op}
 use Rattle.model_syntax.specs.declared.expr.Op.TheVariants as op
 use Rattle.equations.specs.Equations.{is_neutral}

@@ -4,7 +4,7 @@ use Rattle.std.specs.Option.{option_and_then, option_map}
 use Rattle.std.proofs.lemmas.Bool.{eqb-true}
 use Rattle.std.proofs.lemmas.Option.{none-some, same_Some}
 use Rattle.equations.specs.Equations.{any, at_any, among, sides, same_op, literal, at_literal, is_literal, is, exponent, power, byte, at_byte, word, at_word}
-use Rattle.equations.proofs.Powers.{exponent_is}
+use Rattle.equations.specs.laws.Powers.{exponent_is}
 use Rattle.model_syntax.specs.declared.expr.Expr.{Expr, Expr-F, out-Expr, roll-Expr, roll-out-Expr}
 use Rattle.model_syntax.specs.declared.expr.Expr.TheOpen as e
 use Rattle.model_syntax.specs.declared.expr.Expr.TheVariants as v
@@ -79,8 +79,8 @@ pub literal_is : (n : ℕ) (x : Expr) → is_literal n x ≡ true → x ≡ Lit 
 literal_is n x fits = by (literal x) refl fits
   where
     by : (o : Option ℕ) → literal x ≡ o → is n o ≡ true → x ≡ Lit n
-    by None at no = absurd (cc)
-    by (Some k) at yes = literal_of x k at ∙ ap Lit (eqb-true k n yes)
+    by None at wrong = absurd (cc)
+    by (Some k) at same = literal_of x k at ∙ ap Lit (eqb-true k n same)
 
 -- what is made of a number, where there is one
 pub mapped : (f : ℕ → Expr) (o : Option ℕ) (y : Expr) → option_map f o ≡ Some y → (k : ℕ) × ((o ≡ Some k) × (f k ≡ y))
@@ -91,5 +91,5 @@ pub power_is : (x : Expr) (k : ℕ) → power x ≡ Some k → (n : ℕ) × ((x 
 power_is x k fits = by (literal x) refl fits
   where
     by : (o : Option ℕ) → literal x ≡ o → option_and_then exponent o ≡ Some k → (n : ℕ) × ((x ≡ Lit n) × ((2 ^ k ≡ n) × (k < 32)))
-    by None at no = absurd (none-some k no)
+    by None at wrong = absurd (none-some k wrong)
     by (Some n) at some = (n, (literal_of x n at, exponent_is n k some))

@@ -1,30 +1,26 @@
 -- Each equation keeps both laws, and so does the book of them.
-use Rattle.std.proofs.Common.{◌≡◌, refl, sym, ◌∙◌, ap, subst, arith, ℕ, zero, suc, ◌+◌, ◌-◌, ◌%◌, ◌^◌, ◌<◌, ◌≤◌, Bool, true, List, [], ◌∷◌, Option, Some, None, Ok, if◌then◌else◌}
+use Rattle.std.proofs.Common.{◌≡◌, refl, sym, ◌∙◌, ap, subst, arith, ℕ, zero, suc, ◌-◌, ◌%◌, ◌^◌, ◌<◌, ◌≤◌, Bool, true, List, [], ◌∷◌, Option, Some, None, Ok, if◌then◌else◌}
 use Rattle.std.specs.List.{slice_get}
 use Rattle.std.specs.Option.{option_and_then, option_map}
 use Rattle.std.proofs.lemmas.Option.{none-some, same_Some}
 use Rattle.equations.specs.Book.{SameMeaning, NoWorse, KeepsMeaning, MakesNothingWorse}
-use Rattle.equations.specs.Equations.{Equation, sides, is_neutral, is_literal, literal, power, exchanged, grouped_right, grouped_left, shifted, masked, left_alone, computed, unmasked, byte_of_masked, with_mask, word_of_byte, equations, turn}
-use Rattle.equations.proofs.Fits.{any_is, among_is, sides_are, byte_is, word_is, literal_of, literal_is, mapped, power_is, guarded}
-use Rattle.equations.proofs.Nodes.{at_lit, IsWord, lit_typed, bin_typed, bin_parts, byte_typed, byte_parts, word_parts, eval_lit, eval_bin, eval_word, eval_byte, tables_lit, tables_bin, tables_word, tables_byte, IsWhole, formed_whole, spellable_whole, Holds, parts, joined, lit_holds, byte_holds, word_holds}
-use Rattle.equations.proofs.Words.{Commutes, Associates, add_commutes, mul_commutes, and_commutes, or_commutes, xor_commutes, add_associates, mul_associates, xor_associates, product_shifts, quotient_shifts, remainder_masks, shift_word, mask_word, neutral_word, byte_masks, byte_of_mask}
+use Rattle.equations.specs.Equations.{Equation, sides, is_neutral, is_literal, literal, power, exchanged, grouped_right, grouped_left, left_alone, computed, unmasked, byte_of_masked, with_mask, word_of_byte, equations, turn}
+use Rattle.equations.specs.laws.Fits.{any_is, among_is, sides_are, byte_is, word_is, literal_of, literal_is, mapped, power_is, guarded}
+use Rattle.equations.specs.laws.Nodes.{at_lit, IsWord, lit_typed, bin_typed, bin_parts, byte_typed, byte_parts, word_parts, eval_lit, eval_bin, eval_word, eval_byte, tables_lit, tables_bin, tables_word, tables_byte, IsWhole, formed_whole, spellable_whole, Holds, parts, joined, lit_holds, byte_holds, word_holds}
+use Rattle.equations.specs.laws.Words.{Commutes, Associates, add_commutes, mul_commutes, and_commutes, or_commutes, xor_commutes, add_associates, mul_associates, xor_associates, product_shifts, quotient_shifts, remainder_masks, shift_word, mask_word, neutral_word, byte_masks}
 use Rattle.model_syntax.specs.Environment.{Env}
-use Rattle.model_syntax.specs.ExprType.{type_of}
 use Rattle.model_syntax.specs.Formed.{expr_formed, expr_formed_step}
 use Rattle.model_syntax.specs.Kinds.{is_word}
 use Rattle.model_syntax.specs.Limits.{expr_tables}
-use Rattle.model_syntax.specs.Names.{Name}
 use Rattle.model_syntax.specs.Operation.{apply}
 use Rattle.model_syntax.specs.Scope.{Scope}
-use Rattle.model_syntax.specs.Sound.{IsTyped}
-use Rattle.model_syntax.specs.Spelling.{expr_spellable, expr_spellable_step}
+use Rattle.model_syntax.specs.Spelling.{expr_spellable_step}
 use Rattle.model_syntax.specs.Value.{eval}
 use Rattle.model_syntax.specs.declared.expr.Expr.{Expr, Expr-F}
 use Rattle.model_syntax.specs.declared.expr.Expr.TheVariants.{Lit, Bin, ToWord, ToByte}
 use Rattle.model_syntax.specs.declared.expr.Op.{Op}
 use Rattle.model_syntax.specs.declared.expr.Op.TheVariants as op
-use Rattle.model_syntax.specs.declared.expr.Scalar.{Scalar}
-use Rattle.model_syntax.specs.declared.expr.Scalar.TheVariants.{Word, Byte}
+use Rattle.model_syntax.specs.declared.expr.Scalar.TheVariants.{Word}
 use Rattle.model_syntax.proofs.laws.Numbers.{apply_word}
 use Rattle.model_syntax.proofs.laws.Words.{word_value}
 
@@ -256,28 +252,61 @@ step_lawful (e ∷ es) all zero left right is = all.0 left right is
 step_lawful (e ∷ es) all (suc step) left right is = step_lawful es all.1 step left right is
 
 all_lawful : AllLawful equations
-all_lawful =
-    ( exchanged_lawful op.Add add_commutes
-    , (exchanged_lawful op.Mul mul_commutes
-    , (exchanged_lawful op.And and_commutes
-    , (exchanged_lawful op.Or or_commutes
-    , (exchanged_lawful op.Xor xor_commutes
-    , (right_lawful op.Add add_associates
-    , (left_lawful op.Add add_associates
-    , (right_lawful op.Mul mul_associates
-    , (right_lawful op.Xor xor_associates
-    , (power_lawful op.Mul op.Shl (λ k. k) shift_word product_shifts
-    , (power_lawful op.Divu op.Shr (λ k. k) shift_word quotient_shifts
-    , (power_lawful op.Remu op.And (λ k. 2 ^ k - 1) mask_word (λ a k small. remainder_masks a k)
-    , (alone_lawful 0
-    , (alone_lawful 1
-    , (alone_lawful 4294967295
-    , (computed_lawful
-    , (byte_lawful
-    , (word_lawful, tt))))))))))))))))))
+all_lawful = (
+  exchanged_lawful op.Add add_commutes,
+  (
+    exchanged_lawful op.Mul mul_commutes,
+    (
+      exchanged_lawful op.And and_commutes,
+      (
+        exchanged_lawful op.Or or_commutes,
+        (
+          exchanged_lawful op.Xor xor_commutes,
+          (
+            right_lawful op.Add add_associates,
+            (
+              left_lawful op.Add add_associates,
+              (
+                right_lawful op.Mul mul_associates,
+                (
+                  right_lawful op.Xor xor_associates,
+                  (
+                    power_lawful op.Mul op.Shl (λ k. k) shift_word product_shifts,
+                    (
+                      power_lawful op.Divu op.Shr (λ k. k) shift_word quotient_shifts,
+                      (
+                        power_lawful op.Remu op.And (λ k. 2 ^ k - 1) mask_word (λ a k small. remainder_masks a k),
+                        (
+                          alone_lawful 0,
+                          (
+                            alone_lawful 1,
+                            (
+                              alone_lawful 4294967295,
+                              (
+                                computed_lawful,
+                                (
+                                  byte_lawful,
+                                  (word_lawful, tt),
+                                ),
+                              ),
+                            ),
+                          ),
+                        ),
+                      ),
+                    ),
+                  ),
+                ),
+              ),
+            ),
+          ),
+        ),
+      ),
+    ),
+  ),
+)
 
-pub book_keeps_meaning : KeepsMeaning turn
-book_keeps_meaning step left right is formed = (step_lawful equations all_lawful step left right is).meaning formed
+pub keeps_meaning : KeepsMeaning turn
+keeps_meaning step left right is formed = (step_lawful equations all_lawful step left right is).meaning formed
 
-pub book_makes_nothing_worse : MakesNothingWorse turn
-book_makes_nothing_worse step left right is = (step_lawful equations all_lawful step left right is).no_worse
+pub makes_nothing_worse : MakesNothingWorse turn
+makes_nothing_worse step left right is = (step_lawful equations all_lawful step left right is).no_worse

@@ -2,4 +2,4 @@ pub mod Nodes
 pub mod Fits
 pub mod Words
 pub mod Powers
-pub mod Laws
+pub mod Kept

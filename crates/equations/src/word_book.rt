@@ -4,6 +4,7 @@ ghost use Rattle.model_syntax.specs.declared.expr.Op.TheVariants as op;
 ghost use Rattle.model_syntax.specs.declared.expr.Expr.TheVariants.{Bin, Lit};
 ghost use Rattle.equations.specs.Equations as spec;
 ghost use Rattle.equations.specs.laws.Kept as kept;
+ghost use Rattle.equations.specs.laws.Kept.{◌and◌};
 ghost use Rattle.equations.specs.laws.Words as words;
 
 use crate::book::Book;
@@ -207,55 +208,23 @@ impl Book for WordBook {
 
     // equation by equation
     ghost laws = { λ _. kept.book_lawful spec.equations (
-      kept.exchanged_lawful op.Add words.add_commutes,
-      (
-        kept.exchanged_lawful op.Mul words.mul_commutes,
-        (
-          kept.exchanged_lawful op.And words.and_commutes,
-          (
-            kept.exchanged_lawful op.Or words.or_commutes,
-            (
-              kept.exchanged_lawful op.Xor words.xor_commutes,
-              (
-                kept.right_lawful op.Add words.add_associates,
-                (
-                  kept.left_lawful op.Add words.add_associates,
-                  (
-                    kept.right_lawful op.Mul words.mul_associates,
-                    (
-                      kept.right_lawful op.Xor words.xor_associates,
-                      (
-                        kept.power_lawful op.Mul op.Shl (λ k. k) words.shift_word words.product_shifts,
-                        (
-                          kept.power_lawful op.Divu op.Shr (λ k. k) words.shift_word words.quotient_shifts,
-                          (
-                            kept.power_lawful op.Remu op.And (λ k. 2 ^ k - 1) words.mask_word words.remainder_masks,
-                            (
-                              kept.alone_lawful 0,
-                              (
-                                kept.alone_lawful 1,
-                                (
-                                  kept.alone_lawful 4294967295,
-                                  (
-                                    kept.computed_lawful,
-                                    (
-                                      kept.byte_lawful,
-                                      (kept.word_lawful, tt),
-                                    ),
-                                  ),
-                                ),
-                              ),
-                            ),
-                          ),
-                        ),
-                      ),
-                    ),
-                  ),
-                ),
-              ),
-            ),
-          ),
-        ),
-      ),
-    ) };
+        kept.exchanged_lawful op.Add words.add_commutes
+        and kept.exchanged_lawful op.Mul words.mul_commutes
+        and kept.exchanged_lawful op.And words.and_commutes
+        and kept.exchanged_lawful op.Or words.or_commutes
+        and kept.exchanged_lawful op.Xor words.xor_commutes
+        and kept.right_lawful op.Add words.add_associates
+        and kept.left_lawful op.Add words.add_associates
+        and kept.right_lawful op.Mul words.mul_associates
+        and kept.right_lawful op.Xor words.xor_associates
+        and kept.power_lawful op.Mul op.Shl (λ k. k) words.shift_word words.product_shifts
+        and kept.power_lawful op.Divu op.Shr (λ k. k) words.shift_word words.quotient_shifts
+        and kept.power_lawful op.Remu op.And (λ k. 2 ^ k - 1) words.mask_word words.remainder_masks
+        and kept.alone_lawful 0
+        and kept.alone_lawful 1
+        and kept.alone_lawful 4294967295
+        and kept.computed_lawful
+        and kept.byte_lawful
+        and kept.word_lawful
+        and kept.no_more) };
 }

@@ -242,12 +242,23 @@ word_lawful left right is =
 
 -- The book.
 
--- each equation of a list is lawful
-abbrev pub AllLawful : List Equation → Type 0
-AllLawful [] = Unit {0}
-AllLawful (e ∷ es) = Lawful e × AllLawful es
+abbrev pub Each : List Equation → Type 0
+Each [] = Unit {0}
+Each (e ∷ es) = Lawful e × Each es
 
-step_lawful : (es : List Equation) → AllLawful es → (step : ℕ) (left right : Expr) → option_and_then (λ equation. equation left) (slice_get es step) ≡ Some right → Keeps left right
+-- each equation of a list is lawful
+pub record AllLawful (es : List Equation) : Type 0 where
+  pub each : Each es
+
+infixr 10 ◌and◌
+-- one lawful equation and more
+pub ◌and◌ : {e : Equation} {es : List Equation} → Lawful e → AllLawful es → AllLawful (e ∷ es)
+one and more = record { each = (one, more.each) }
+
+pub no_more : AllLawful []
+no_more = record { each = tt }
+
+step_lawful : (es : List Equation) → Each es → (step : ℕ) (left right : Expr) → option_and_then (λ equation. equation left) (slice_get es step) ≡ Some right → Keeps left right
 step_lawful [] all step left right is = absurd (none-some right is)
 step_lawful (e ∷ es) all zero left right is = all.0 left right is
 step_lawful (e ∷ es) all (suc step) left right is = step_lawful es all.1 step left right is
@@ -255,6 +266,6 @@ step_lawful (e ∷ es) all (suc step) left right is = step_lawful es all.1 step 
 -- a book of lawful equations keeps both laws
 pub book_lawful : (es : List Equation) → AllLawful es → Laws (λ step left. option_and_then (λ equation. equation left) (slice_get es step))
 book_lawful es all = record {
-  keeps_meaning = λ step left right is formed. (step_lawful es all step left right is).meaning formed;
-  makes_nothing_worse = λ step left right is. (step_lawful es all step left right is).no_worse;
+  keeps_meaning = λ step left right is formed. (step_lawful es all.each step left right is).meaning formed;
+  makes_nothing_worse = λ step left right is. (step_lawful es all.each step left right is).no_worse;
 }

@@ -37,3 +37,8 @@ KeepsMeaning turn = (step : ℕ) (left right : Expr) → turn step left ≡ Some
 -- the second law: a step makes nothing worse
 abbrev pub MakesNothingWorse : Turn → Type 0
 MakesNothingWorse turn = (step : ℕ) (left right : Expr) → turn step left ≡ Some right → NoWorse left right
+
+-- what a book keeps
+pub record Laws (turn : Turn) : Type 0 where
+  pub keeps_meaning : KeepsMeaning turn
+  pub makes_nothing_worse : MakesNothingWorse turn

@@ -1,13 +1,14 @@
--- Each equation keeps both laws, and so does the book of them.
-use Rattle.std.proofs.Common.{◌≡◌, refl, sym, ◌∙◌, ap, subst, arith, ℕ, zero, suc, ◌-◌, ◌%◌, ◌^◌, ◌<◌, ◌≤◌, Bool, true, List, [], ◌∷◌, Option, Some, None, Ok, if◌then◌else◌}
+-- Each equation keeps both laws, and so does a book of such equations. The laws of a trait are proved by what stands in
+-- `specs`, and so are these.
+use Rattle.std.proofs.Common.{◌≡◌, refl, sym, ◌∙◌, ap, subst, arith, ℕ, zero, suc, ◌%◌, ◌^◌, ◌<◌, ◌≤◌, Bool, true, List, [], ◌∷◌, Option, Some, None, Ok, if◌then◌else◌}
 use Rattle.std.specs.List.{slice_get}
 use Rattle.std.specs.Option.{option_and_then, option_map}
 use Rattle.std.proofs.lemmas.Option.{none-some, same_Some}
-use Rattle.equations.specs.Book.{SameMeaning, NoWorse, KeepsMeaning, MakesNothingWorse}
-use Rattle.equations.specs.Equations.{Equation, sides, is_neutral, is_literal, literal, power, exchanged, grouped_right, grouped_left, left_alone, computed, unmasked, byte_of_masked, with_mask, word_of_byte, equations, turn}
+use Rattle.equations.specs.Book.{SameMeaning, NoWorse, Laws}
+use Rattle.equations.specs.Equations.{Equation, sides, is_neutral, is_literal, literal, power, exchanged, grouped_right, grouped_left, left_alone, computed, unmasked, byte_of_masked, with_mask, word_of_byte}
 use Rattle.equations.specs.laws.Fits.{any_is, among_is, sides_are, byte_is, word_is, literal_of, literal_is, mapped, power_is, guarded}
 use Rattle.equations.specs.laws.Nodes.{at_lit, IsWord, lit_typed, bin_typed, bin_parts, byte_typed, byte_parts, word_parts, eval_lit, eval_bin, eval_word, eval_byte, tables_lit, tables_bin, tables_word, tables_byte, IsWhole, formed_whole, spellable_whole, Holds, parts, joined, lit_holds, byte_holds, word_holds}
-use Rattle.equations.specs.laws.Words.{Commutes, Associates, add_commutes, mul_commutes, and_commutes, or_commutes, xor_commutes, add_associates, mul_associates, xor_associates, product_shifts, quotient_shifts, remainder_masks, shift_word, mask_word, neutral_word, byte_masks}
+use Rattle.equations.specs.laws.Words.{Commutes, Associates, neutral_word, byte_masks}
 use Rattle.model_syntax.specs.Environment.{Env}
 use Rattle.model_syntax.specs.Formed.{expr_formed, expr_formed_step}
 use Rattle.model_syntax.specs.Kinds.{is_word}
@@ -69,7 +70,7 @@ exchanged_keeps o p q commutes = record {
       (λ step w holds. let h = parts step w o p q holds in joined step w o q p h.1 h.0);
 }
 
-exchanged_lawful : (o : Op) → Commutes o → Lawful (exchanged o)
+pub exchanged_lawful : (o : Op) → Commutes o → Lawful (exchanged o)
 exchanged_lawful o commutes left right is =
     let h = sides_are o _ left right is in
     subst (λ x. Keeps x right) (sym h.2.0) (subst (λ y. Keeps (Bin o h.0 h.1) y) (same_Some _ right h.2.1) (exchanged_keeps o h.0 h.1 commutes))
@@ -108,14 +109,14 @@ left_keeps o p q r associates = record {
       joined step w o (Bin o p q) r (joined step w o p q h.0 k.0) k.1);
 }
 
-right_lawful : (o : Op) → Associates o → Lawful (grouped_right o)
+pub right_lawful : (o : Op) → Associates o → Lawful (grouped_right o)
 right_lawful o associates left right is =
     let h = sides_are o _ left right is in
     let k = sides_are o _ h.0 right h.2.1 in
     let at : left ≡ Bin o (Bin o k.0 k.1) h.1 = h.2.0 ∙ ap (λ x. Bin o x h.1) k.2.0 in
     subst (λ x. Keeps x right) (sym at) (subst (λ y. Keeps (Bin o (Bin o k.0 k.1) h.1) y) (same_Some _ right k.2.1) (right_keeps o k.0 k.1 h.1 associates))
 
-left_lawful : (o : Op) → Associates o → Lawful (grouped_left o)
+pub left_lawful : (o : Op) → Associates o → Lawful (grouped_left o)
 left_lawful o associates left right is =
     let h = sides_are o _ left right is in
     let k = sides_are o _ h.1 right h.2.1 in
@@ -136,7 +137,7 @@ by_number o e n to k small same = record {
 }
 
 -- the same of an equation for the numbers that are powers of two
-power_lawful : (o to : Op) (f : ℕ → ℕ) → ((k : ℕ) → k < 32 → is_word (f k) ≡ true) → ((a k : ℕ) → k < 32 → apply to a (f k) ≡ apply o a (2 ^ k))
+pub power_lawful : (o to : Op) (f : ℕ → ℕ) → ((k : ℕ) → k < 32 → is_word (f k) ≡ true) → ((a k : ℕ) → k < 32 → apply to a (f k) ≡ apply o a (2 ^ k))
     → Lawful (sides o (λ e n. option_map (λ k. Bin to e (Lit (f k))) (power n)))
 power_lawful o to f small same left right is =
     let h = sides_are o _ left right is in
@@ -154,7 +155,7 @@ alone_keeps o e n neutral = record {
   no_worse = no_worse_by (Bin o e (Lit n)) e (omega (arith, tables_bin o e (Lit n))) (λ step w holds. (parts step w o e (Lit n) holds).0);
 }
 
-alone_lawful : (n : ℕ) → Lawful (left_alone n)
+pub alone_lawful : (n : ℕ) → Lawful (left_alone n)
 alone_lawful n left right is =
     let h = among_is (λ o. is_neutral o n) (λ e m. if is_literal n m then Some e else None) left right is in
     let g = guarded (is_literal n h.2) (Some h.1) right h.3.1.1 in
@@ -177,7 +178,7 @@ computed_keeps o n k = record {
   };
 }
 
-computed_lawful : Lawful computed
+pub computed_lawful : Lawful computed
 computed_lawful left right is =
     let h = any_is (λ o a b. option_and_then (λ n. option_map (λ k. Lit (apply o n k)) (literal b)) (literal a)) left right is in
     by h.0 h.1 h.2 h.3.0 (literal h.1) refl h.3.1
@@ -211,7 +212,7 @@ byte_keeps e = record {
     twice : (a : ℕ) → a % 256 % 256 ≡ a % 256
     twice a = omega arith
 
-byte_lawful : Lawful byte_of_masked
+pub byte_lawful : Lawful byte_of_masked
 byte_lawful left right is =
     let b = byte_is unmasked left right is in
     let h = sides_are op.And (λ e n. if is_literal 255 n then Some (ToByte e) else None) b.0 right b.1.1 in
@@ -232,7 +233,7 @@ word_keeps e = record {
       (λ step w holds. joined step w op.And e (Lit 255) (sym (byte_holds step w e) ∙ sym (word_holds step w (ToByte e)) ∙ holds) (lit_holds step w 255 refl));
 }
 
-word_lawful : Lawful word_of_byte
+pub word_lawful : Lawful word_of_byte
 word_lawful left right is =
     let h = word_is with_mask left right is in
     let b = byte_is (λ e. Some (Bin op.And e (Lit 255))) h.0 right h.1.1 in
@@ -241,72 +242,30 @@ word_lawful left right is =
 
 -- The book.
 
--- each equation of a list is lawful
-abbrev AllLawful : List Equation → Type 0
-AllLawful [] = Unit {0}
-AllLawful (e ∷ es) = Lawful e × AllLawful es
+abbrev pub Each : List Equation → Type 0
+Each [] = Unit {0}
+Each (e ∷ es) = Lawful e × Each es
 
-step_lawful : (es : List Equation) → AllLawful es → (step : ℕ) (left right : Expr) → option_and_then (λ equation. equation left) (slice_get es step) ≡ Some right → Keeps left right
+-- each equation of a list is lawful
+pub record AllLawful (es : List Equation) : Type 0 where
+  pub each : Each es
+
+infixr 10 ◌and◌
+-- one lawful equation and more
+pub ◌and◌ : {e : Equation} {es : List Equation} → Lawful e → AllLawful es → AllLawful (e ∷ es)
+one and more = record { each = (one, more.each) }
+
+pub no_more : AllLawful []
+no_more = record { each = tt }
+
+step_lawful : (es : List Equation) → Each es → (step : ℕ) (left right : Expr) → option_and_then (λ equation. equation left) (slice_get es step) ≡ Some right → Keeps left right
 step_lawful [] all step left right is = absurd (none-some right is)
 step_lawful (e ∷ es) all zero left right is = all.0 left right is
 step_lawful (e ∷ es) all (suc step) left right is = step_lawful es all.1 step left right is
 
-all_lawful : AllLawful equations
-all_lawful = (
-  exchanged_lawful op.Add add_commutes,
-  (
-    exchanged_lawful op.Mul mul_commutes,
-    (
-      exchanged_lawful op.And and_commutes,
-      (
-        exchanged_lawful op.Or or_commutes,
-        (
-          exchanged_lawful op.Xor xor_commutes,
-          (
-            right_lawful op.Add add_associates,
-            (
-              left_lawful op.Add add_associates,
-              (
-                right_lawful op.Mul mul_associates,
-                (
-                  right_lawful op.Xor xor_associates,
-                  (
-                    power_lawful op.Mul op.Shl (λ k. k) shift_word product_shifts,
-                    (
-                      power_lawful op.Divu op.Shr (λ k. k) shift_word quotient_shifts,
-                      (
-                        power_lawful op.Remu op.And (λ k. 2 ^ k - 1) mask_word (λ a k small. remainder_masks a k),
-                        (
-                          alone_lawful 0,
-                          (
-                            alone_lawful 1,
-                            (
-                              alone_lawful 4294967295,
-                              (
-                                computed_lawful,
-                                (
-                                  byte_lawful,
-                                  (word_lawful, tt),
-                                ),
-                              ),
-                            ),
-                          ),
-                        ),
-                      ),
-                    ),
-                  ),
-                ),
-              ),
-            ),
-          ),
-        ),
-      ),
-    ),
-  ),
-)
-
-pub keeps_meaning : KeepsMeaning turn
-keeps_meaning step left right is formed = (step_lawful equations all_lawful step left right is).meaning formed
-
-pub makes_nothing_worse : MakesNothingWorse turn
-makes_nothing_worse step left right is = (step_lawful equations all_lawful step left right is).no_worse
+-- a book of lawful equations keeps both laws
+pub book_lawful : (es : List Equation) → AllLawful es → Laws (λ step left. option_and_then (λ equation. equation left) (slice_get es step))
+book_lawful es all = record {
+  keeps_meaning = λ step left right is formed. (step_lawful es all.each step left right is).meaning formed;
+  makes_nothing_worse = λ step left right is. (step_lawful es all.each step left right is).no_worse;
+}

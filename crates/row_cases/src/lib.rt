@@ -10,12 +10,18 @@
 //! begins with `#` is a comment.
 #![tactic(auto)]
 
+mod answers;
 mod case;
 mod fault;
 mod parts;
+mod table;
 mod tally;
+mod written;
 
+pub use answers::{operand, refused, shown, told};
 pub use case::{Case, Row, read_case, read_row};
 pub use fault::Fault;
 pub use parts::{bytes_of, escaped, number_of, numbers_of};
+pub use table::{Calls, judge_table};
 pub use tally::Tally;
+pub use written::bytes_written;

@@ -184,7 +184,7 @@ fn commands(alloc: Global, forms: &[Sx], room: &mut u32) -> Result<List<Cmd>, Fa
     ensures { IfOk result (λ cs. sum (map cmd_size cs) + sum (map (cmd_weight Weights.LARGE) cs) + room.new ≤ room.old) }
 {
     let mut commands = List::new(alloc);
-    'forms: for form in forms {
+    for form in forms {
         commands.push(command(alloc, form, room)?)?;
     }
     Ok(commands)

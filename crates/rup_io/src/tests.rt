@@ -41,6 +41,8 @@ fn a_file_on_disk_is_fetched(rt: HostRuntime) -> Result<(), Fail> {
     let mut files = DiskFiles::new(&rt);
     let answer = files.fetch(rt.alloc(), HELD, 4);
     assert_eq!(rt; bytes_of(&answer), Ok(b"held".as_slice()));
+    let answer = files.fetch(rt.alloc(), HELD, 3);
+    assert_eq!(rt; bytes_of(&answer), Err(FetchFault::TooLong));
     // A folder opens, and no read of it succeeds.
     let answer = files.fetch(rt.alloc(), ".", 4);
     assert_eq!(rt; bytes_of(&answer), Err(FetchFault::Failed));

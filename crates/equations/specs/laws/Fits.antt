@@ -38,7 +38,8 @@ pub any_is : (next : Op → Expr → Expr → Option Expr) (x y : Expr) → any 
     → (o : Op) × (p : Expr) × (q : Expr) × ((x ≡ Bin o p q) × (next o p q ≡ Some y))
 any_is next x y fits = by (out-Expr x) refl fits
   where
-    by : (l : Expr-F Expr) → out-Expr x ≡ l → at_any next l ≡ Some y → (o : Op) × (p : Expr) × (q : Expr) × ((x ≡ Bin o p q) × (next o p q ≡ Some y))
+    by : (l : Expr-F Expr) → out-Expr x ≡ l → at_any next l ≡ Some y
+        → (o : Op) × (p : Expr) × (q : Expr) × ((x ≡ Bin o p q) × (next o p q ≡ Some y))
     by (e.Bin o p q) at some = (o, p, q, (opened x (e.Bin o p q) at ∙ v.rolls-Bin o p q, some))
     by l at some = absurd (none-some y some)
 
@@ -90,6 +91,7 @@ mapped f (Some k) y some = (k, (refl, same_Some (f k) y some))
 pub power_is : (x : Expr) (k : ℕ) → power x ≡ Some k → (n : ℕ) × ((x ≡ Lit n) × ((2 ^ k ≡ n) × (k < 32)))
 power_is x k fits = by (literal x) refl fits
   where
-    by : (o : Option ℕ) → literal x ≡ o → option_and_then exponent o ≡ Some k → (n : ℕ) × ((x ≡ Lit n) × ((2 ^ k ≡ n) × (k < 32)))
+    by : (o : Option ℕ) → literal x ≡ o → option_and_then exponent o ≡ Some k
+        → (n : ℕ) × ((x ≡ Lit n) × ((2 ^ k ≡ n) × (k < 32)))
     by None at wrong = absurd (none-some k wrong)
     by (Some n) at some = (n, (literal_of x n at, exponent_is n k some))

@@ -32,8 +32,14 @@ pub record NoWorse (left right : Expr) : Type 0 where
 
 -- the first law: a step keeps the meaning of every formed expression
 abbrev pub KeepsMeaning : Turn → Type 0
-KeepsMeaning turn = (step : ℕ) (left right : Expr) → turn step left ≡ Some right → expr_formed left ≡ true → SameMeaning left right
+KeepsMeaning turn =
+    (step : ℕ) (left right : Expr) → turn step left ≡ Some right → expr_formed left ≡ true → SameMeaning left right
 
 -- the second law: a step makes nothing worse
 abbrev pub MakesNothingWorse : Turn → Type 0
 MakesNothingWorse turn = (step : ℕ) (left right : Expr) → turn step left ≡ Some right → NoWorse left right
+
+-- what a book keeps
+pub record Laws (turn : Turn) : Type 0 where
+  pub keeps_meaning : KeepsMeaning turn
+  pub makes_nothing_worse : MakesNothingWorse turn

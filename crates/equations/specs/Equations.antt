@@ -7,7 +7,7 @@ use Rattle.model_syntax.specs.declared.expr.Op.{Op}
 use Rattle.model_syntax.specs.declared.expr.Op.TheVariants as op
 use Rattle.model_syntax.specs.declared.expr.Expr.{Expr, Expr-F, out-Expr}
 use Rattle.model_syntax.specs.declared.expr.Expr.TheOpen as e
-use Rattle.model_syntax.specs.declared.expr.Expr.TheVariants.{Lit, Bin, ToWord, ToByte}
+use Rattle.model_syntax.specs.declared.expr.Expr.TheVariants.{Lit, Bin, ToByte}
 
 -- what an equation makes of an expression, or none where its left side does not fit
 abbrev pub Equation : Type 0
@@ -15,6 +15,7 @@ Equation = Expr → Option Expr
 
 -- Left sides.
 
+-- the operations are one
 abbrev pub same_op : Op → Op → Bool
 same_op op.Add op.Add = true
 same_op op.Sub op.Sub = true
@@ -54,6 +55,7 @@ at_literal y = None
 abbrev pub literal : Expr → Option ℕ
 literal x = at_literal (out-Expr x)
 
+-- there is a number, and it is this one
 abbrev pub is : ℕ → Option ℕ → Bool
 is n None = false
 is n (Some k) = nat_eq k n
@@ -103,31 +105,31 @@ is_neutral op.Sar n = false
 
 -- Equations.
 
--- (OP e f) = (OP f e)
+-- steps 0 to 4: (OP e f) = (OP f e)
 abbrev pub exchanged : Op → Equation
 exchanged o = sides o (λ e f. Some (Bin o f e))
 
--- (OP (OP e f) g) = (OP e (OP f g))
+-- steps 5, 7, 8: (OP (OP e f) g) = (OP e (OP f g))
 abbrev pub grouped_right : Op → Equation
 grouped_right o = sides o (λ ef g. sides o (λ e f. Some (Bin o e (Bin o f g))) ef)
 
--- (OP e (OP f g)) = (OP (OP e f) g)
+-- step 6: (OP e (OP f g)) = (OP (OP e f) g)
 abbrev pub grouped_left : Op → Equation
 grouped_left o = sides o (λ e fg. sides o (λ f g. Some (Bin o (Bin o e f) g)) fg)
 
--- (OP e N) = (SHIFT e K), where N = 2^K
+-- steps 9, 10: (OP e N) = (SHIFT e K), where N = 2^K
 abbrev pub shifted : Op → Op → Equation
 shifted o shift = sides o (λ e n. option_map (λ k. Bin shift e (Lit k)) (power n))
 
--- (remu e N) = (and e N-1), where N = 2^K
+-- step 11: (remu e N) = (and e N-1), where N = 2^K
 abbrev pub masked : Equation
 masked = sides op.Remu (λ e n. option_map (λ k. Bin op.And e (Lit (2 ^ k - 1))) (power n))
 
--- (OP e N) = e, where N changes nothing on the right of OP
+-- steps 12 to 14, for 0, 1, 4294967295: (OP e N) = e, where N changes nothing on the right of OP
 abbrev pub left_alone : ℕ → Equation
 left_alone n = among (λ o. is_neutral o n) (λ e m. if is_literal n m then Some e else None)
 
--- (OP N K) = the literal of the value
+-- step 15: (OP N K) = the literal of the value
 abbrev pub computed : Equation
 computed = any (λ o a b. option_and_then (λ n. option_map (λ k. Lit (apply o n k)) (literal b)) (literal a))
 
@@ -135,7 +137,7 @@ computed = any (λ o a b. option_and_then (λ n. option_map (λ k. Lit (apply o 
 abbrev pub unmasked : Equation
 unmasked = sides op.And (λ e n. if is_literal 255 n then Some (ToByte e) else None)
 
--- (byte (and e 255)) = (byte e)
+-- step 16: (byte (and e 255)) = (byte e)
 abbrev pub byte_of_masked : Equation
 byte_of_masked = byte unmasked
 
@@ -143,13 +145,13 @@ byte_of_masked = byte unmasked
 abbrev pub with_mask : Equation
 with_mask = byte (λ e. Some (Bin op.And e (Lit 255)))
 
--- (word (byte e)) = (and e 255)
+-- step 17: (word (byte e)) = (and e 255)
 abbrev pub word_of_byte : Equation
 word_of_byte = word with_mask
 
 -- The book.
 
--- the equations in the order of their steps, from 0 to 17
+-- the equations in the order of their steps
 abbrev pub equations : List Equation
 equations =
     exchanged op.Add

@@ -1,3 +1,3 @@
 pub mod Book
 pub mod Equations
-pub mod Laws
+pub mod laws

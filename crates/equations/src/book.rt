@@ -1,6 +1,6 @@
 //! What every book of equations keeps.
 ghost use Rattle.std.specs.Prelude.{◌≡◌, IfOk};
-ghost use Rattle.equations.specs.Book.{Turn, KeepsMeaning, MakesNothingWorse};
+ghost use Rattle.equations.specs.Book.{Turn, Laws};
 
 use model_syntax::Expr;
 use rup_base::NoMemory;
@@ -16,9 +16,6 @@ pub trait Book {
     fn apply(&self, alloc: Global, step: u32, e: &Expr) -> Result<Option<Expr>, NoMemory>
         ensures { IfOk result (λ answer. answer ≡ turn self.now step e.now) };
 
-    // the first law
-    ghost keeps_meaning: { (book : Self) → KeepsMeaning (turn book) };
-
-    // the second law
-    ghost makes_nothing_worse: { (book : Self) → MakesNothingWorse (turn book) };
+    // a step keeps the meaning of every formed expression, and makes nothing worse
+    ghost laws: { (book : Self) → Laws (turn book) };
 }

@@ -8,3 +8,6 @@ mod word_book;
 
 pub use book::Book;
 pub use word_book::WordBook;
+
+#[cfg(test)]
+mod tests;

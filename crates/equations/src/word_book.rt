@@ -1,9 +1,11 @@
 //! The eighteen equations of words, in the order of their steps.
-ghost use Rattle.std.specs.Prelude.{◌≡◌, Some, IfOk};
+ghost use Rattle.std.specs.Prelude.{◌≡◌, ◌-◌, ◌^◌, Some, IfOk};
 ghost use Rattle.model_syntax.specs.declared.expr.Op.TheVariants as op;
 ghost use Rattle.model_syntax.specs.declared.expr.Expr.TheVariants.{Bin, Lit};
 ghost use Rattle.equations.specs.Equations as spec;
-ghost use Rattle.equations.specs.Laws as laws;
+ghost use Rattle.equations.specs.laws.Kept as kept;
+ghost use Rattle.equations.specs.laws.Kept.{◌and◌};
+ghost use Rattle.equations.specs.laws.Words as words;
 
 use crate::book::Book;
 use crate::sides::{
@@ -204,7 +206,25 @@ impl Book for WordBook {
         turn(alloc, step, e)
     }
 
-    ghost keeps_meaning = { λ _. laws.keeps_meaning };
-
-    ghost makes_nothing_worse = { λ _. laws.makes_nothing_worse };
+    // equation by equation
+    ghost laws = { λ _. kept.book_lawful spec.equations (
+        kept.exchanged_lawful op.Add words.add_commutes
+        and kept.exchanged_lawful op.Mul words.mul_commutes
+        and kept.exchanged_lawful op.And words.and_commutes
+        and kept.exchanged_lawful op.Or words.or_commutes
+        and kept.exchanged_lawful op.Xor words.xor_commutes
+        and kept.right_lawful op.Add words.add_associates
+        and kept.left_lawful op.Add words.add_associates
+        and kept.right_lawful op.Mul words.mul_associates
+        and kept.right_lawful op.Xor words.xor_associates
+        and kept.power_lawful op.Mul op.Shl (λ k. k) words.shift_word words.product_shifts
+        and kept.power_lawful op.Divu op.Shr (λ k. k) words.shift_word words.quotient_shifts
+        and kept.power_lawful op.Remu op.And (λ k. 2 ^ k - 1) words.mask_word words.remainder_masks
+        and kept.alone_lawful 0
+        and kept.alone_lawful 1
+        and kept.alone_lawful 4294967295
+        and kept.computed_lawful
+        and kept.byte_lawful
+        and kept.word_lawful
+        and kept.no_more) };
 }

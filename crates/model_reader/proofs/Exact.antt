@@ -3,6 +3,7 @@ use Rattle.std.proofs.Common.{◌≡◌, subst, refl, sym, ◌∙◌, ap, ℕ, �
 use Rattle.std.proofs.lemmas.Bool.Decides.{nat_tests}
 use Rattle.rup_base.specs.Answers.{Answers, and_then}
 use Rattle.rup_base.specs.declared.fail.Fail.{Fail}
+use Rattle.rup_base.specs.declared.refusal.Refusal.{Refusal}
 use Rattle.rup_base.specs.declared.refusal.Refusal.TheVariants.{OverLimit}
 use Rattle.rup_base.specs.declared.refusal.Limit.{Limit}
 use Rattle.rup_base.specs.declared.refusal.TextWhy.{TextWhy}
@@ -13,7 +14,7 @@ use Rattle.model_syntax.specs.Limits.{Within, over_limit, statements, depth, blo
 use Rattle.model_syntax.specs.Formed.{model_formed}
 use Rattle.model_syntax.specs.Spelling.{Spellable}
 use Rattle.model_reader.specs.Parts.{Answer}
-use Rattle.model_reader.specs.Reading.{Reads, read_model, model_of_forms, limited}
+use Rattle.model_reader.specs.Reading.{Reads, read_model, model_of_forms, limited, not_model}
 use Rattle.model_reader.proofs.Fine.{IsModel}
 use Rattle.model_reader.proofs.Read.{whole_is_fine}
 
@@ -21,12 +22,18 @@ abbrev answer_of : Model → Answer Model
 answer_of m = Ok m
 
 -- an answer that goes on to a value is a value that goes on to it
-first_part : {A B : Type 0} (a : Answer A) (next : A → Answer B) (b : B) → and_then a next ≡ Ok b → (x : A) × (a ≡ Ok x) × (next x ≡ Ok b)
+first_part : {A B : Type 0} (a : Result A Refusal) (next : A → Result B Refusal) (b : B) → and_then a next ≡ Ok b
+    → (x : A) × (a ≡ Ok x) × (next x ≡ Ok b)
 first_part (Ok x) next b h = (x, refl, h)
 first_part (Err r) next b h = absurd cc
 
+model_of : (a : Answer Model) (m : Model) → not_model a ≡ Ok m → a ≡ Ok m
+model_of (Ok n) m h = let same : n ≡ m = cc in ap answer_of same
+model_of (Err at) m h = absurd cc
+
 -- the forms of a text do not depend on the word that names its file
-any_word : (v w : ℕ) (f : Option (ℕ × TextWhy)) (found forms : List Sx) → judged v f found ≡ Ok forms → judged w f found ≡ Ok forms
+any_word : (v w : ℕ) (f : Option (ℕ × TextWhy)) (found forms : List Sx) → judged v f found ≡ Ok forms
+    → judged w f found ≡ Ok forms
 any_word v w None found forms h = h
 any_word v w (Some fault) found forms h = absurd cc
 
@@ -54,7 +61,8 @@ none_of false b c d w x y z h = absurd cc
 
 none_within : (m : Model) → over_limit m ≡ None → Within m
 none_within m h =
-    let p = none_of (nat_le (statements m) 2000) (nat_le (depth m) 64) (nat_le (blocks m) 16) (nat_le (tables m) 65536) _ _ _ _ h in
+    let p =
+    none_of (nat_le (statements m) 2000) (nat_le (depth m) 64) (nat_le (blocks m) 16) (nat_le (tables m) 65536) _ _ _ _ h in
     record {
       few_statements = under (statements m) 2000 p.0;
       shallow_expressions = under (depth m) 64 p.1;
@@ -80,10 +88,11 @@ within_limits m w = rw (none_over m w, limited) refl
 -- a model that is read: the forms of its bytes, and their one model, which is within the limits
 read_parts : (word : ℕ) (bytes : List ℕ) (m : Model) → read_model word bytes ≡ Ok m → Reads bytes m × Within m
 read_parts word bytes m h =
-    let (forms, r, rest) = first_part (read word bytes) (λ forms. and_then (model_of_forms (length bytes) forms) limited) m h in
-    let (n, s, l) = first_part (model_of_forms (length bytes) forms) limited m rest in
+    let (forms, r, rest) =
+    first_part (read word bytes) (λ forms. and_then (not_model (model_of_forms (length bytes) forms)) limited) m h in
+    let (n, s, l) = first_part (not_model (model_of_forms (length bytes) forms)) limited m rest in
     let (same, none) = limited_same n m l in (
-      (forms, same_forms word 0 bytes forms r, s ∙ ap answer_of same),
+      (forms, same_forms word 0 bytes forms r, model_of (model_of_forms (length bytes) forms) n s ∙ ap answer_of same),
       none_within m (sym (ap over_limit same) ∙ none),
     )
 
@@ -103,7 +112,7 @@ answered_only word bytes (Err e) h = tt
 pub answered_all : (word : ℕ) (bytes : List ℕ) (r : Result Model Fail) (m : Model) → Reads bytes m → Within m
     → Answers r (read_model word bytes) → Answers r (Ok m)
 answered_all word bytes r m reads within h =
-    let P : Answer Model → Type 0 = λ a. Answers r a in
+    let P : Result Model Refusal → Type 0 = λ a. Answers r a in
     subst P (is_read word bytes m reads within) h
 
 -- a text of a model is one of a formed model, whose tables it spells
@@ -113,7 +122,8 @@ text_is_fine bytes m (forms, r, s) = whole_is_fine (place 0 (length bytes + 1)) 
 fine_parts : (word : ℕ) (bytes : List ℕ) (m : Model) → read_model word bytes ≡ Ok m → IsModel m
 fine_parts word bytes m h = let p = read_parts word bytes m h in text_is_fine bytes m p.0
 
-pub answered_spellable : (word : ℕ) (bytes : List ℕ) (r : Result Model Fail) → Answers r (read_model word bytes) → IfOk r (λ m. Spellable m)
+pub answered_spellable : (word : ℕ) (bytes : List ℕ) (r : Result Model Fail) → Answers r (read_model word bytes)
+    → IfOk r (λ m. Spellable m)
 answered_spellable word bytes (Ok m) h = (fine_parts word bytes m h).0
 answered_spellable word bytes (Err e) h = tt
 

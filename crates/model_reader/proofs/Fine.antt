@@ -1,6 +1,6 @@
 -- What a form is read as is formed, and its tables are those that the text of models can spell: the parts of a list.
-use Rattle.std.proofs.Common.{◌≡◌, ℕ, zero, suc, Bool, true, List, [], ◌∷◌, map}
-use Rattle.rup_base.specs.Name.{is_name}
+use Rattle.std.proofs.Common.{◌≡◌, refl, ℕ, zero, suc, Bool, true, false, List, [], ◌∷◌, map, Some, None, if◌then◌else◌}
+use Rattle.rup_base.specs.Name.{is_name, name_of}
 use Rattle.rup_base.specs.Gather.{all_true}
 use Rattle.rup_base.specs.declared.arg.Place.{Place}
 use Rattle.model_syntax.specs.Names.{same}
@@ -15,7 +15,7 @@ use Rattle.model_syntax.specs.declared.program.Param.{Param}
 use Rattle.model_syntax.specs.declared.program.Ret.{Ret}
 use Rattle.model_syntax.specs.declared.program.Model.{Model}
 use Rattle.model_reader.specs.Parts as parts
-use Rattle.model_reader.specs.Parts.{Answer, Reading, Kind, Name, nth, end, each, headed}
+use Rattle.model_reader.specs.Parts.{Answer, Reading, Kind, Name, ◌>>=◌, known, form, nth, end, each, headed, behind}
 use Rattle.model_reader.specs.Expressions as exprs
 use Rattle.model_reader.specs.Facts as facts
 use Rattle.model_reader.specs.Statements as stmts
@@ -87,8 +87,15 @@ abbrev pub AreFine : List Reading → Type 0
 AreFine = All IsFine
 
 -- names and numbers
+named : (p : Place) (t : Name) (test : Bool) → is_name t ≡ test → Gives (known p (if test then Some t else None)) IsName
+named p t true h = given h
+named p t false h = refused
+
+pub known_name : (p : Place) (t : Name) → Gives (known p (name_of t)) IsName
+known_name p t = named p t (is_name t) refl
+
 pub name_gives : (f : Reading) → Gives (parts.name f) IsName
-name_gives f = tested (is_name f.text) (λ h. given h) refused
+name_gives f = known_name f.at f.text
 
 pub number_gives : (f : Reading) → Gives (parts.number f) IsWord
 number_gives f = known_number f.at f.text
@@ -102,21 +109,28 @@ pub each_gives : {A : Type 0} {P : A → Type 0} (kind : Kind A) → ((f : Readi
 each_gives kind one [] h = given tt
 each_gives kind one (f ∷ fs) h = one f h.0 ⊳ λ a k. each_gives kind one fs h.1 ⊳ λ more l. given (k, l)
 
-pub each_passes : {A : Type 0} (test : A → Bool) (kind : Kind A) → ((f : Reading) → IsFine f → Gives (kind f) (λ a. test a ≡ true))
+pub each_passes : {A : Type 0} (test : A → Bool) (kind : Kind A)
+    → ((f : Reading) → IsFine f → Gives (kind f) (λ a. test a ≡ true))
     → (fs : List Reading) → AreFine fs → Gives (each kind fs) (λ found. all_true (map test found) ≡ true)
 each_passes test kind one fs h = weaker (all_pass test) (each_gives kind one fs h)
 
-pub headed_gives : {A : Type 0} {P : List A → Type 0} (word : List ℕ) (kind : Kind A)
-    → ((fs : List Reading) → AreFine fs → Gives (each kind fs) P) → (p : Place) (fs : List Reading) → AreFine fs → Gives (headed word kind p fs) P
-headed_gives word kind some p [] h = refused
-headed_gives word kind some p (head ∷ fs) h = tested (same head.text word) (λ _. some fs h.1) refused
+-- the forms behind the first one of a list
+pub headed_gives : (p : Place) (fs : List Reading) → AreFine fs → Gives (headed p fs) (λ h. AreFine h.1)
+headed_gives p [] h = refused
+headed_gives p (head ∷ fs) h = given h.1
+
+pub behind_gives : (word : List ℕ) (p : Place) (fs : List Reading) → AreFine fs → Gives (behind word p fs) AreFine
+behind_gives word p fs h = headed_gives p fs h ⊳ λ d k. tested (same d.0 word) (λ _. given k) refused
 
 -- the form with a number, in a list whose forms are fine
+form_gives : (p : Place) (fs : List Reading) → AreFine fs → (i : ℕ) → Gives (form i p fs) IsFine
+form_gives p [] h i = refused
+form_gives p (f ∷ fs) h zero = given h.0
+form_gives p (f ∷ fs) h (suc i) = form_gives p fs h.1 i
+
 pub nth_gives : {A : Type 0} {P : A → Type 0} (kind : Kind A) → ((f : Reading) → IsFine f → Gives (kind f) P)
     → (p : Place) (fs : List Reading) → AreFine fs → (i : ℕ) → Gives (nth i kind p fs) P
-nth_gives kind one p [] h i = refused
-nth_gives kind one p (f ∷ fs) h zero = one f h.0
-nth_gives kind one p (f ∷ fs) h (suc i) = nth_gives kind one p fs h.1 i
+nth_gives kind one p fs h i = form_gives p fs h i ⊳ one
 
 module _ (p : Place) (fs : List Reading) (h : AreFine fs) where
   pub name_part : (i : ℕ) → Gives (nth i parts.name p fs) IsName

@@ -22,10 +22,10 @@ use Rattle.model_reader.specs.Numbers as numbers
 use Rattle.model_reader.specs.Words.{expr_word}
 use Rattle.model_reader.specs.Parts.{Reading, nth, each, some, wrong, known}
 use Rattle.model_reader.specs.Expressions.{table_scalar, entry, fits, one_of, two_of, length_of, get_of, tab_of, worded_expr, list_expr, atom_expr}
-use Rattle.model_reader.specs.Facts.{sum_of, scale_of, list_side, atom_side, le_of, list_fact}
+use Rattle.model_reader.specs.Facts.{sum_of, scale_of, worded_side, list_side, atom_side, list_fact}
 use Rattle.model_reader.proofs.Gives.{Gives, given, refused, any, ◌⊳◌, tested, All}
 use Rattle.model_reader.proofs.WordNumbers.{IsWord, OfWord, number_is_word}
-use Rattle.model_reader.proofs.Fine.{IsExpr, IsTable, IsSide, IsFact, AreFine, no_more, number_gives, name_part, number_part, expr_part, entries_part, side_part}
+use Rattle.model_reader.proofs.Fine.{IsExpr, IsTable, IsSide, IsFact, AreFine, no_more, headed_gives, behind_gives, number_gives, name_part, number_part, expr_part, entries_part, side_part}
 
 -- tables
 abbrev Fits : Scalar → ℕ → Type 0
@@ -68,43 +68,48 @@ AreExprs ab = IsExpr ab.0 × IsExpr ab.1
 
 module _ (p : Place) (fs : List Reading) (h : AreFine fs) where
   one_gives : Gives (one_of p fs) IsExpr
-  one_gives = expr_part p fs h 1 ⊳ λ a k. no_more 2 fs ⊳ λ u _. given k
+  one_gives = expr_part p fs h 0 ⊳ λ a k. no_more 1 fs ⊳ λ u _. given k
 
   two_gives : Gives (two_of p fs) AreExprs
-  two_gives = expr_part p fs h 1 ⊳ λ a k. expr_part p fs h 2 ⊳ λ b n. no_more 3 fs ⊳ λ u _. given (k, n)
+  two_gives = expr_part p fs h 0 ⊳ λ a k. expr_part p fs h 1 ⊳ λ b n. no_more 2 fs ⊳ λ u _. given (k, n)
 
   length_gives : Gives (length_of p fs) IsExpr
-  length_gives = name_part p fs h 1 ⊳ λ a k. no_more 2 fs ⊳ λ u _. given (layer (e.Length a) (v.rolls-Length a) refl k)
+  length_gives = name_part p fs h 0 ⊳ λ a k. no_more 1 fs ⊳ λ u _. given (layer (e.Length a) (v.rolls-Length a) refl k)
 
   get_gives : Gives (get_of p fs) IsExpr
   get_gives =
-      name_part p fs h 1 ⊳ λ a k. expr_part p fs h 2 ⊳ λ i n. no_more 3 fs ⊳ λ u _.
+      name_part p fs h 0 ⊳ λ a k. expr_part p fs h 1 ⊳ λ i n. no_more 2 fs ⊳ λ u _.
       given (layer (e.Get a i) (v.rolls-Get a i) n.0 (rw (k, n.1) refl))
 
   tab_gives : Gives (tab_of p fs) IsExpr
   tab_gives =
-      any {answer = nth 1 table_scalar p fs} ⊳ λ t _. entries_part p fs h t 2 ⊳ λ ns k. expr_part p fs h 3 ⊳ λ i n. no_more 4 fs ⊳ λ u _.
+      any {answer = nth 0 table_scalar p fs} ⊳ λ t _. entries_part p fs h t 1 ⊳ λ ns k.
+      expr_part p fs h 2 ⊳ λ i n. no_more 3 fs ⊳ λ u _.
       given (layer (e.Tab t ns i) (v.rolls-Tab t ns i) (rw (k.0, n.0) refl) (rw (k.1, n.1) refl))
 
   worded_gives : (w : ExprWord) → Gives (worded_expr w p fs) IsExpr
   worded_gives (word.Bin op) =
-      two_gives ⊳ λ ab k. given (layer (e.Bin op ab.0 ab.1) (v.rolls-Bin op ab.0 ab.1) (rw (k.0.0, k.1.0) refl) (rw (k.0.1, k.1.1) refl))
+      two_gives ⊳ λ ab k.
+      given (layer (e.Bin op ab.0 ab.1) (v.rolls-Bin op ab.0 ab.1) (rw (k.0.0, k.1.0) refl) (rw (k.0.1, k.1.1) refl))
   worded_gives (word.Test cmp) =
-      two_gives ⊳ λ ab k. given (layer (e.Test cmp ab.0 ab.1) (v.rolls-Test cmp ab.0 ab.1) (rw (k.0.0, k.1.0) refl) (rw (k.0.1, k.1.1) refl))
+      two_gives ⊳ λ ab k.
+      given (layer (e.Test cmp ab.0 ab.1) (v.rolls-Test cmp ab.0 ab.1) (rw (k.0.0, k.1.0) refl) (rw (k.0.1, k.1.1) refl))
   worded_gives word.Length = length_gives
   worded_gives word.Not = one_gives ⊳ λ a k. given (layer (e.Not a) (v.rolls-Not a) k.0 k.1)
   worded_gives word.Both =
-      two_gives ⊳ λ ab k. given (layer (e.Both ab.0 ab.1) (v.rolls-Both ab.0 ab.1) (rw (k.0.0, k.1.0) refl) (rw (k.0.1, k.1.1) refl))
+      two_gives ⊳ λ ab k.
+      given (layer (e.Both ab.0 ab.1) (v.rolls-Both ab.0 ab.1) (rw (k.0.0, k.1.0) refl) (rw (k.0.1, k.1.1) refl))
   worded_gives word.Either =
-      two_gives ⊳ λ ab k. given (layer (e.Either ab.0 ab.1) (v.rolls-Either ab.0 ab.1) (rw (k.0.0, k.1.0) refl) (rw (k.0.1, k.1.1) refl))
+      two_gives ⊳ λ ab k.
+      given (layer (e.Either ab.0 ab.1) (v.rolls-Either ab.0 ab.1) (rw (k.0.0, k.1.0) refl) (rw (k.0.1, k.1.1) refl))
   worded_gives word.ToWord = one_gives ⊳ λ a k. given (layer (e.ToWord a) (v.rolls-ToWord a) k.0 k.1)
   worded_gives word.ToByte = one_gives ⊳ λ a k. given (layer (e.ToByte a) (v.rolls-ToByte a) k.0 k.1)
   worded_gives word.Get = get_gives
   worded_gives word.Tab = tab_gives
 
 pub list_expr_gives : (p : Place) (fs : List Reading) → AreFine fs → Gives (list_expr p fs) IsExpr
-list_expr_gives p [] h = refused
-list_expr_gives p (head ∷ fs) h = any {answer = known p (expr_word head.text)} ⊳ λ w _. worded_gives p (head ∷ fs) h w
+list_expr_gives p fs h =
+    headed_gives p fs h ⊳ λ d k. any {answer = known p (expr_word d.0)} ⊳ λ w _. worded_gives p d.1 k w
 
 named : (p : Place) (t : List ℕ) → Gives (if is_name t then Ok (v.Var t) else wrong p) IsExpr
 named p t = tested (is_name t) (λ h. given (layer (e.Var t) (v.rolls-Var t) refl h)) refused
@@ -124,24 +129,20 @@ side_layer y is h = ap side_formed (sym is) ∙ fold-roll-Lin Bool side_formed_s
 module _ (p : Place) (fs : List Reading) (h : AreFine fs) where
   sum_gives : Gives (sum_of p fs) IsSide
   sum_gives =
-      side_part p fs h 1 ⊳ λ a k. side_part p fs h 2 ⊳ λ b n. no_more 3 fs ⊳ λ u _.
+      side_part p fs h 0 ⊳ λ a k. side_part p fs h 1 ⊳ λ b n. no_more 2 fs ⊳ λ u _.
       given (side_layer (l.Sum a b) (m.rolls-Sum a b) (rw (k, n) refl))
 
   scale_gives : Gives (scale_of p fs) IsSide
   scale_gives =
-      number_part p fs h 1 ⊳ λ c k. side_part p fs h 2 ⊳ λ a n. no_more 3 fs ⊳ λ u _.
+      number_part p fs h 0 ⊳ λ c k. side_part p fs h 1 ⊳ λ a n. no_more 2 fs ⊳ λ u _.
       given (side_layer (l.Scale c a) (m.rolls-Scale c a) (rw (k, n) refl))
 
-  le_gives : Gives (le_of p fs) IsFact
-  le_gives =
-      side_part p fs h 1 ⊳ λ a k. side_part p fs h 2 ⊳ λ b n. no_more 3 fs ⊳ λ u _.
-      given {a = record { low = a; high = b }} (rw (k, n) refl)
+  worded_side_gives : (word : List ℕ) → Gives (worded_side word p fs) IsSide
+  worded_side_gives word =
+      tested (same word (codes "add")) (λ _. sum_gives) (tested (same word (codes "mul")) (λ _. scale_gives) refused)
 
 pub list_side_gives : (p : Place) (fs : List Reading) → AreFine fs → Gives (list_side p fs) IsSide
-list_side_gives p [] h = refused
-list_side_gives p (head ∷ fs) h =
-    tested (same head.text (codes "add")) (λ _. sum_gives p (head ∷ fs) h)
-    (tested (same head.text (codes "mul")) (λ _. scale_gives p (head ∷ fs) h) refused)
+list_side_gives p fs h = headed_gives p fs h ⊳ λ d k. worded_side_gives p d.1 k d.0
 
 named_side : (p : Place) (t : List ℕ) → Gives (if is_name t then Ok (m.Var t) else wrong p) IsSide
 named_side p t = tested (is_name t) (λ h. given (side_layer (l.Var t) (m.rolls-Var t) h)) refused
@@ -155,5 +156,7 @@ pub atom_side_gives : (p : Place) (t : List ℕ) → Gives (atom_side p t) IsSid
 atom_side_gives p t = numbered_side p t (numbers.number t) (number_is_word t)
 
 pub list_fact_gives : (p : Place) (fs : List Reading) → AreFine fs → Gives (list_fact p fs) IsFact
-list_fact_gives p [] h = refused
-list_fact_gives p (head ∷ fs) h = tested (same head.text (codes "le")) (λ _. le_gives p (head ∷ fs) h) refused
+list_fact_gives p fs h =
+    behind_gives (codes "le") p fs h ⊳ λ args g. side_part p args g 0 ⊳ λ a k. side_part p args g 1 ⊳ λ b n.
+    no_more 2 args ⊳ λ u _.
+    given {a = record { low = a; high = b }} (rw (k, n) refl)

@@ -1,21 +1,32 @@
 -- The form with a number, and the forms from a number on, by what stands in the list.
-use Rattle.std.proofs.Common.{◌≡◌, refl, ℕ, zero, suc, ◌<◌, ◌≤◌, List, [], ◌∷◌, map, length, get_or, arith, Ok}
+use Rattle.std.proofs.Common.{◌≡◌, refl, ℕ, zero, suc, ◌+◌, ◌<◌, ◌≤◌, List, [], ◌∷◌, map, length, get_or, arith, Ok}
 use Rattle.rup_base.specs.declared.arg.Place.{Place}
 use Rattle.sx_text.specs.declared.tree.Sx.{Sx}
-use Rattle.model_reader.specs.Parts.{Kind, nth, end, missing, wrong}
+use Rattle.model_reader.specs.Parts.{form, end, missing, wrong}
 use Rattle.model_reader.specs.Reading.{reading}
+use Rattle.model_reader.specs.Sizes.{size, sizes}
 
-pub nth_in : {A : Type 0} (kind : Kind A) (p : Place) (ks : List Sx) (i : ℕ) (d : Sx) → i < length ks
-    → nth i kind p (map reading ks) ≡ kind (reading (get_or ks i d))
-nth_in kind p [] i d h = absurd (omega arith)
-nth_in kind p (k ∷ ks) zero d h = refl
-nth_in kind p (k ∷ ks) (suc i) d h = nth_in kind p ks i d (omega arith)
+pub form_in : (p : Place) (ks : List Sx) (i : ℕ) (d : Sx) → i < length ks
+    → form i p (map reading ks) ≡ Ok (reading (get_or ks i d))
+form_in p [] i d h = absurd (omega arith)
+form_in p (k ∷ ks) zero d h = refl
+form_in p (k ∷ ks) (suc i) d h = form_in p ks i d (omega arith)
 
-pub nth_out : {A : Type 0} (kind : Kind A) (p : Place) (ks : List Sx) (i : ℕ) → length ks ≤ i
-    → nth i kind p (map reading ks) ≡ missing p
-nth_out kind p [] i h = refl
-nth_out kind p (k ∷ ks) zero h = absurd (omega arith)
-nth_out kind p (k ∷ ks) (suc i) h = nth_out kind p ks i (omega arith)
+pub form_out : (p : Place) (ks : List Sx) (i : ℕ) → length ks ≤ i → form i p (map reading ks) ≡ missing p
+form_out p [] i h = refl
+form_out p (k ∷ ks) zero h = absurd (omega arith)
+form_out p (k ∷ ks) (suc i) h = form_out p ks i (omega arith)
+
+no_more_than_first : (a b : ℕ) → a ≤ a + b
+no_more_than_first a b = omega arith
+
+no_more_behind : (a b c : ℕ) → a ≤ c → a ≤ b + c
+no_more_behind a b c h = omega arith
+
+pub size_in : (ks : List Sx) (i : ℕ) (d : Sx) → i < length ks → size (get_or ks i d) ≤ sizes ks
+size_in [] i d h = absurd (omega arith)
+size_in (k ∷ ks) zero d h = no_more_than_first (size k) (sizes ks)
+size_in (k ∷ ks) (suc i) d h = no_more_behind (size (get_or ks i d)) (size k) (sizes ks) (size_in ks i d (omega arith))
 
 pub end_in : (ks : List Sx) (i : ℕ) (d : Sx) → i < length ks → end i (map reading ks) ≡ wrong (reading (get_or ks i d)).at
 end_in [] i d h = absurd (omega arith)

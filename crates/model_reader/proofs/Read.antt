@@ -5,6 +5,8 @@ use Rattle.sx_text.specs.declared.tree.Sx.{Sx, Sx-F, ind-Sx, map-Sx, roll-Sx}
 use Rattle.sx_text.specs.declared.tree.Sx.TheVariants.{rolls-Atom, rolls-Kids}
 use Rattle.sx_text.specs.declared.tree.Sx.TheOpen as x
 use Rattle.model_syntax.specs.Formed.{fact_formed}
+use Rattle.model_syntax.specs.declared.expr.Expr.{Expr}
+use Rattle.model_syntax.specs.declared.stmt.Le.{Le}
 use Rattle.model_syntax.specs.declared.program.Model.{Model}
 use Rattle.rup_base.specs.Name.{is_name}
 use Rattle.model_reader.specs.Parts as parts
@@ -14,7 +16,7 @@ use Rattle.model_reader.specs.Models.{model, whole}
 use Rattle.model_reader.specs.Reading.{reading, atom_reading, list_reading}
 use Rattle.model_reader.proofs.Readings.{reading-Atom, reading-Kids}
 use Rattle.model_reader.proofs.Gives.{Gives, given, refused, ◌⊳◌}
-use Rattle.model_reader.proofs.Fine.{IsFine, AreFine, no_more, IsModel, AreFacts, name_gives, name_part, each_passes, headed_gives, nth_gives}
+use Rattle.model_reader.proofs.Fine.{IsFine, AreFine, no_more, IsExpr, IsFact, IsModel, AreFacts, name_gives, name_part, each_passes, behind_gives, nth_gives}
 use Rattle.model_reader.proofs.FineExprs.{atom_expr_gives, list_expr_gives, table_gives, atom_side_gives, list_side_gives, list_fact_gives}
 use Rattle.model_reader.proofs.FineStmts.{list_stmt_gives, block_gives, atom_sort_gives, list_sort_gives, list_param_gives, params_gives, atom_ret_gives, list_ret_gives, rets_gives, list_model_gives}
 
@@ -39,7 +41,7 @@ atom_fine p t = record {
 }
 
 facts_give : (word : List ℕ) (p : Place) (fs : List Reading) → AreFine fs → Gives (facts_of word p fs) AreFacts
-facts_give word = headed_gives word fact (each_passes fact_formed fact (λ f k. k.fact))
+facts_give word p fs h = behind_gives word p fs h ⊳ λ args k. each_passes fact_formed fact (λ f l. l.fact) args k
 
 list_fine : (p : Place) (fs : List Reading) → AreFine fs → IsFine (list_reading p fs)
 list_fine p fs h = record {
@@ -83,6 +85,12 @@ layer (x.Kids p ks) =
 fine : (form : Sx) → IsFine (reading form)
 fine = ind-Sx Holds (λ z y is. subst (λ form. Holds (roll-Sx form)) is (layer y))
 
+pub expr_is_fine : (form : Sx) (a : Expr) → (reading form).expr ≡ Ok a → IsExpr a
+expr_is_fine form = (fine form).expr.has
+
+pub fact_is_fine : (form : Sx) (a : Le) → (reading form).fact ≡ Ok a → IsFact a
+fact_is_fine form = (fine form).fact.has
+
 each_fine : (forms : List Sx) → AreFine (map reading forms)
 each_fine [] = tt
 each_fine (form ∷ forms) = (fine form, each_fine forms)
@@ -90,7 +98,8 @@ each_fine (form ∷ forms) = (fine form, each_fine forms)
 -- the one model of a text
 whole_gives : (p : Place) (forms : List Sx) → Gives (whole p (map reading forms)) IsModel
 whole_gives p forms =
-    nth_gives model (λ f k. k.model) p (map reading forms) (each_fine forms) 0 ⊳ λ m h. no_more 1 (map reading forms) ⊳ λ u _. given h
+    nth_gives model (λ f k. k.model) p (map reading forms) (each_fine forms) 0 ⊳ λ m h.
+    no_more 1 (map reading forms) ⊳ λ u _. given h
 
 pub whole_is_fine : (p : Place) (forms : List Sx) (m : Model) → whole p (map reading forms) ≡ Ok m → IsModel m
 whole_is_fine p forms = (whole_gives p forms).has

@@ -36,7 +36,8 @@ numeral_word radix ds =
     either_word (list_all (λ d. is_digit d radix) ds) (in_word n) None (limited_word n (is_word n) refl) no_word
 
 hexadecimal_word : (ds : List ℕ) → OfWord (hexadecimal ds)
-hexadecimal_word ds = either_word (nat_le 1 (length ds) && nat_le (length ds) 8) (numeral 16 ds) None (numeral_word 16 ds) no_word
+hexadecimal_word ds =
+    either_word (nat_le 1 (length ds) && nat_le (length ds) 8) (numeral 16 ds) None (numeral_word 16 ds) no_word
 
 zero_word : (ds : List ℕ) → OfWord (after_zero ds)
 zero_word [] = some_word 0 refl
@@ -44,7 +45,8 @@ zero_word (b ∷ ds) = either_word (nat_eq b 120) (hexadecimal ds) None (hexadec
 
 pub number_is_word : (t : List ℕ) → OfWord (number t)
 number_is_word [] = no_word
-number_is_word (b ∷ bs) = either_word (nat_eq b 48) (after_zero bs) (numeral 10 (b ∷ bs)) (zero_word bs) (numeral_word 10 (b ∷ bs))
+number_is_word (b ∷ bs) =
+    either_word (nat_eq b 48) (after_zero bs) (numeral 10 (b ∷ bs)) (zero_word bs) (numeral_word 10 (b ∷ bs))
 
 known_of : (p : Place) (found : Option ℕ) → OfWord found → Gives (parts.known p found) IsWord
 known_of p None h = refused

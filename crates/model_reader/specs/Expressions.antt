@@ -1,5 +1,5 @@
 -- The rules of expressions.
-use Rattle.std.specs.Prelude.{ℕ, nat_le, Bool, true, false, List, [], ◌∷◌, Ok, Some, None, if◌then◌else◌}
+use Rattle.std.specs.Prelude.{ℕ, nat_le, Bool, true, false, List, Ok, Some, None, if◌then◌else◌}
 use Rattle.rup_base.specs.Name.{is_name}
 use Rattle.rup_base.specs.declared.arg.Place.{Place}
 use Rattle.model_syntax.specs.declared.expr.Scalar.{Scalar}
@@ -10,7 +10,7 @@ use Rattle.model_reader.specs.declared.words.ExprWord.{ExprWord}
 use Rattle.model_reader.specs.declared.words.ExprWord.TheVariants as word
 use Rattle.model_reader.specs.Numbers as numbers
 use Rattle.model_reader.specs.Words.{expr_word, scalar_of}
-use Rattle.model_reader.specs.Parts.{Answer, Kind, Rule, ◌>>=◌, wrong, nth, end, some, name, number, known}
+use Rattle.model_reader.specs.Parts.{Answer, Kind, Rule, ◌>>=◌, wrong, nth, end, headed, some, name, number, known}
 
 abbrev pub expr : Kind Expr
 expr f = f.expr
@@ -37,46 +37,46 @@ entries_of t = some (entry t)
 abbrev pub entries : Scalar → Kind (List ℕ)
 entries t f = f.entries t
 
--- a word and an operand
+-- an operand
 abbrev pub one_of : Rule Expr
 one_of p fs = do
-  a ← nth 1 expr p fs
-  _ ← end 2 fs
+  a ← nth 0 expr p fs
+  _ ← end 1 fs
   Ok a
 
--- a word and two operands
+-- two operands
 abbrev pub two_of : Rule (Expr × Expr)
 two_of p fs = do
-  a ← nth 1 expr p fs
-  b ← nth 2 expr p fs
-  _ ← end 3 fs
+  a ← nth 0 expr p fs
+  b ← nth 1 expr p fs
+  _ ← end 2 fs
   Ok (a, b)
 
 -- (len a)
 abbrev pub length_of : Rule Expr
 length_of p fs = do
-  a ← nth 1 name p fs
-  _ ← end 2 fs
+  a ← nth 0 name p fs
+  _ ← end 1 fs
   Ok (e.Length a)
 
 -- (get a e)
 abbrev pub get_of : Rule Expr
 get_of p fs = do
-  a ← nth 1 name p fs
-  i ← nth 2 expr p fs
-  _ ← end 3 fs
+  a ← nth 0 name p fs
+  i ← nth 1 expr p fs
+  _ ← end 2 fs
   Ok (e.Get a i)
 
 -- (tab byte (N+) e), (tab word (N+) e)
 abbrev pub tab_of : Rule Expr
 tab_of p fs = do
-  t ← nth 1 table_scalar p fs
-  ns ← nth 2 (entries t) p fs
-  i ← nth 3 expr p fs
-  _ ← end 4 fs
+  t ← nth 0 table_scalar p fs
+  ns ← nth 1 (entries t) p fs
+  i ← nth 2 expr p fs
+  _ ← end 3 fs
   Ok (e.Tab t ns i)
 
--- the list that a word begins
+-- what stands behind the word that begins the list
 abbrev pub worded_expr : ExprWord → Rule Expr
 worded_expr (word.Bin op) p fs = two_of p fs >>= λ ab. Ok (e.Bin op ab.0 ab.1)
 worded_expr (word.Test cmp) p fs = two_of p fs >>= λ ab. Ok (e.Test cmp ab.0 ab.1)
@@ -90,8 +90,10 @@ worded_expr word.Get p fs = get_of p fs
 worded_expr word.Tab p fs = tab_of p fs
 
 abbrev pub list_expr : Rule Expr
-list_expr p [] = wrong p
-list_expr p (head ∷ fs) = known p (expr_word head.text) >>= λ word. worded_expr word p (head ∷ fs)
+list_expr p fs = do
+  h ← headed p fs
+  word ← known p (expr_word h.0)
+  worded_expr word p h.1
 
 -- a number or a name
 abbrev pub atom_expr : Place → List ℕ → Answer Expr

@@ -1,5 +1,5 @@
 -- The rules of requirements and kept facts.
-use Rattle.std.specs.Prelude.{ℕ, List, [], ◌∷◌, Ok, Some, None, codes, if◌then◌else◌}
+use Rattle.std.specs.Prelude.{ℕ, List, Ok, Some, None, codes, if◌then◌else◌}
 use Rattle.rup_base.specs.Name.{is_name}
 use Rattle.rup_base.specs.declared.arg.Place.{Place}
 use Rattle.model_syntax.specs.Names.{same}
@@ -7,7 +7,7 @@ use Rattle.model_syntax.specs.declared.stmt.Lin.{Lin}
 use Rattle.model_syntax.specs.declared.stmt.Lin.TheVariants as l
 use Rattle.model_syntax.specs.declared.stmt.Le.{Le}
 use Rattle.model_reader.specs.Numbers as numbers
-use Rattle.model_reader.specs.Parts.{Answer, Kind, Rule, ◌>>=◌, wrong, nth, end, headed, number}
+use Rattle.model_reader.specs.Parts.{Answer, Kind, Rule, ◌>>=◌, wrong, nth, end, each, headed, behind, number}
 
 abbrev pub side : Kind Lin
 side f = f.side
@@ -18,25 +18,27 @@ fact f = f.fact
 -- (add L L)
 abbrev pub sum_of : Rule Lin
 sum_of p fs = do
-  a ← nth 1 side p fs
-  b ← nth 2 side p fs
-  _ ← end 3 fs
+  a ← nth 0 side p fs
+  b ← nth 1 side p fs
+  _ ← end 2 fs
   Ok (l.Sum a b)
 
 -- (mul number L)
 abbrev pub scale_of : Rule Lin
 scale_of p fs = do
-  k ← nth 1 number p fs
-  a ← nth 2 side p fs
-  _ ← end 3 fs
+  k ← nth 0 number p fs
+  a ← nth 1 side p fs
+  _ ← end 2 fs
   Ok (l.Scale k a)
 
-abbrev pub list_side : Rule Lin
-list_side p [] = wrong p
-list_side p (head ∷ fs) =
-    if same head.text (codes "add") then sum_of p (head ∷ fs)
-    else (if same head.text (codes "mul") then scale_of p (head ∷ fs)
+abbrev pub worded_side : List ℕ → Rule Lin
+worded_side word p fs =
+    if same word (codes "add") then sum_of p fs
+    else (if same word (codes "mul") then scale_of p fs
     else wrong p)
+
+abbrev pub list_side : Rule Lin
+list_side p fs = headed p fs >>= λ h. worded_side h.0 p h.1
 
 -- a number or a name
 abbrev pub atom_side : Place → List ℕ → Answer Lin
@@ -46,17 +48,14 @@ atom_side p t = elim (numbers.number t) [
 ]
 
 -- (le L L)
-abbrev pub le_of : Rule Le
-le_of p fs = do
-  a ← nth 1 side p fs
-  b ← nth 2 side p fs
-  _ ← end 3 fs
-  Ok (record { low = a; high = b })
-
 abbrev pub list_fact : Rule Le
-list_fact p [] = wrong p
-list_fact p (head ∷ fs) = if same head.text (codes "le") then le_of p (head ∷ fs) else wrong p
+list_fact p fs = do
+  args ← behind (codes "le") p fs
+  a ← nth 0 side p args
+  b ← nth 1 side p args
+  _ ← end 2 args
+  Ok (record { low = a; high = b })
 
 -- (keep C*), (require C*)
 abbrev pub facts_of : List ℕ → Rule (List Le)
-facts_of word = headed word fact
+facts_of word p fs = behind word p fs >>= each fact

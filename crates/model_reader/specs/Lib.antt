@@ -6,3 +6,5 @@ pub mod Parts
 pub mod Reading
 pub mod Statements
 pub mod Words
+pub mod Sizes
+pub mod Yields

@@ -1,8 +1,7 @@
 -- The rules of parameters, results and models.
-use Rattle.std.specs.Prelude.{ℕ, List, [], ◌∷◌, Ok, Some, None, codes, if◌then◌else◌}
-use Rattle.rup_base.specs.Name.{is_name}
+use Rattle.std.specs.Prelude.{ℕ, List, Ok, Some, None, codes, if◌then◌else◌}
+use Rattle.rup_base.specs.Name.{is_name, name_of}
 use Rattle.rup_base.specs.declared.arg.Place.{Place}
-use Rattle.model_syntax.specs.Names.{same}
 use Rattle.model_syntax.specs.declared.expr.Scalar.{Scalar}
 use Rattle.model_syntax.specs.declared.expr.Scalar.TheVariants as scalar
 use Rattle.model_syntax.specs.declared.stmt.Le.{Le}
@@ -16,7 +15,7 @@ use Rattle.model_syntax.specs.declared.program.Model.{Model}
 use Rattle.model_reader.specs.Numbers as numbers
 use Rattle.model_reader.specs.Words.{scalar_of, array_of}
 use Rattle.model_reader.specs.Statements.{block}
-use Rattle.model_reader.specs.Parts.{Answer, Reading, Kind, Rule, Name, ◌>>=◌, wrong, nth, end, headed, alone, name, known, word}
+use Rattle.model_reader.specs.Parts.{Answer, Reading, Kind, Rule, Name, ◌>>=◌, wrong, nth, end, headed, behind, each, alone, name, known, word}
 
 -- LEN
 abbrev pub len : Kind Len
@@ -41,66 +40,62 @@ array_param x n scalar.Flag = parameter.Bytes x n
 abbrev pub atom_sort : Place → List ℕ → Name → Answer Param
 atom_sort p t x = known p (scalar_of t) >>= λ t. Ok (scalar_param x t)
 
--- (bytes LEN), (words LEN)
+-- the LEN of (bytes LEN) or (words LEN)
 abbrev pub array_of_length : Name → Scalar → Rule Param
 array_of_length x t p fs = do
-  n ← nth 1 len p fs
-  _ ← end 2 fs
+  n ← nth 0 len p fs
+  _ ← end 1 fs
   Ok (array_param x n t)
 
 abbrev pub list_sort : Place → List Reading → Name → Answer Param
-list_sort p [] x = wrong p
-list_sort p (head ∷ fs) x = known p (array_of head.text) >>= λ t. array_of_length x t p (head ∷ fs)
+list_sort p fs x = do
+  h ← headed p fs
+  t ← known p (array_of h.0)
+  array_of_length x t p h.1
 
 abbrev pub sort : Name → Kind Param
 sort x f = f.sort x
 
 -- (x word), (x byte), (x (bytes LEN)), (x (words LEN))
-abbrev pub typed_name : Name → Rule Param
-typed_name x p fs = do
-  t ← nth 1 (sort x) p fs
-  _ ← end 2 fs
-  Ok t
-
--- a parameter is a list whose first atom is a name
 abbrev pub list_param : Rule Param
-list_param p [] = wrong p
-list_param p (head ∷ fs) = if is_name head.text then typed_name head.text p (head ∷ fs) else wrong p
+list_param p fs = do
+  h ← headed p fs
+  x ← known p (name_of h.0)
+  t ← nth 0 (sort x) p h.1
+  _ ← end 1 h.1
+  Ok t
 
 abbrev pub param : Kind Param
 param f = f.param
 
 -- (params P*)
 abbrev pub params_of : Rule (List Param)
-params_of = headed (codes "params") param
+params_of p fs = behind (codes "params") p fs >>= each param
 
 -- the word `in`
 abbrev pub in_word : Kind (Unit {0})
 in_word = word (codes "in")
 
 -- (a in P)
-abbrev pub array_ret : Name → Rule Ret
-array_ret a p fs = do
-  _ ← nth 1 in_word p fs
-  owner ← nth 2 name p fs
-  _ ← end 3 fs
-  Ok (result.Array a owner)
-
--- a returned array is a list whose first atom is a name
 abbrev pub list_ret : Rule Ret
-list_ret p [] = wrong p
-list_ret p (head ∷ fs) = if is_name head.text then array_ret head.text p (head ∷ fs) else wrong p
+list_ret p fs = do
+  h ← headed p fs
+  a ← known p (name_of h.0)
+  _ ← nth 0 in_word p h.1
+  owner ← nth 1 name p h.1
+  _ ← end 2 h.1
+  Ok (result.Array a owner)
 
 -- NAME
 abbrev pub atom_ret : Place → List ℕ → Answer Ret
-atom_ret p t = if is_name t then Ok (result.Scalar t) else wrong p
+atom_ret p t = known p (name_of t) >>= λ x. Ok (result.Scalar x)
 
 abbrev pub ret : Kind Ret
 ret f = f.ret
 
 -- (ret R*)
 abbrev pub rets_of : Rule (List Ret)
-rets_of = headed (codes "ret") ret
+rets_of p fs = behind (codes "ret") p fs >>= each ret
 
 abbrev pub params : Kind (List Param)
 params f = f.params
@@ -113,18 +108,17 @@ rets f = f.rets
 
 -- (model NAME (params P*) (require C*) (do S*) (ret R*))
 abbrev pub model_of : Rule Model
-model_of p fs = do
-  x ← nth 1 name p fs
-  ps ← nth 2 params p fs
-  cs ← nth 3 requires_ p fs
-  body ← nth 4 block p fs
-  rs ← nth 5 rets p fs
-  _ ← end 6 fs
+model_of p args = do
+  x ← nth 0 name p args
+  ps ← nth 1 params p args
+  cs ← nth 2 requires_ p args
+  body ← nth 3 block p args
+  rs ← nth 4 rets p args
+  _ ← end 5 args
   Ok (record { name = x; params = ps; requires_ = cs; body = body; rets = rs })
 
 abbrev pub list_model : Rule Model
-list_model p [] = wrong p
-list_model p (head ∷ fs) = if same head.text (codes "model") then model_of p (head ∷ fs) else wrong p
+list_model p fs = behind (codes "model") p fs >>= model_of p
 
 abbrev pub model : Kind Model
 model f = f.model

@@ -1,11 +1,8 @@
 -- What a form is read as, and the parts of a list. Each rule of the grammar is a list of parts in the order
 -- of the text, so the first part that is refused is the first form that is not of its kind.
 use Rattle.std.specs.Prelude.{ℕ, zero, suc, ◌-◌, List, [], ◌∷◌, Result, Ok, Err, Option, Some, None, if◌then◌else◌}
-use Rattle.rup_base.specs.Answers.{and_then}
-use Rattle.rup_base.specs.Name.{is_name}
+use Rattle.rup_base.specs.Name.{name_of}
 use Rattle.rup_base.specs.declared.arg.Place.{Place}
-use Rattle.rup_base.specs.declared.refusal.Refusal.{Refusal}
-use Rattle.rup_base.specs.declared.refusal.Refusal.TheVariants.{NotModel}
 use Rattle.model_syntax.specs.Names.{same}
 use Rattle.model_syntax.specs.declared.expr.Scalar.{Scalar}
 use Rattle.model_syntax.specs.declared.expr.Expr.{Expr}
@@ -20,8 +17,9 @@ use Rattle.model_reader.specs.Numbers as numbers
 abbrev pub Name : Type 0
 Name = List ℕ
 
+-- what forms are read as, or the offset of the first form that is not of the kind that its place asks for
 abbrev pub Answer : Type 0 → Type 0
-Answer A = Result A Refusal
+Answer A = Result A ℕ
 
 -- a form as each kind of the grammar
 pub record Reading : Type 0 where
@@ -71,21 +69,26 @@ Rule A = Place → List Reading → Answer A
 
 infixl 10 ◌>>=◌
 abbrev pub ◌>>=◌ : {A B : Type 0} → Answer A → (A → Answer B) → Answer B
-answer >>= next = and_then answer next
+Ok a >>= next = next a
+Err at >>= next = Err at
 
 -- the form at a place is not of the kind that is expected there
 abbrev pub wrong : {A : Type 0} → Place → Answer A
-wrong p = Err (NotModel p.start)
+wrong p = Err p.start
 
 -- a form is missing in the list at a place: at its closing parenthesis
 abbrev pub missing : {A : Type 0} → Place → Answer A
-missing p = Err (NotModel (p.end - 1))
+missing p = Err (p.end - 1)
+
+-- the form with a number
+abbrev pub form : ℕ → Rule Reading
+form i p [] = missing p
+form zero p (f ∷ fs) = Ok f
+form (suc i) p (f ∷ fs) = form i p fs
 
 -- the form with a number, as a kind
 abbrev pub nth : {A : Type 0} → ℕ → Kind A → Rule A
-nth i kind p [] = missing p
-nth zero kind p (f ∷ fs) = kind f
-nth (suc i) kind p (f ∷ fs) = nth i kind p fs
+nth i kind p fs = form i p fs >>= kind
 
 -- no form with this number
 abbrev pub end : ℕ → List Reading → Answer (Unit {0})
@@ -101,10 +104,16 @@ each kind (f ∷ fs) = do
   more ← each kind fs
   Ok (a ∷ more)
 
--- a word, and then each form as one kind
-abbrev pub headed : {A : Type 0} → List ℕ → Kind A → Rule (List A)
-headed word kind p [] = wrong p
-headed word kind p (head ∷ fs) = if same head.text word then each kind fs else wrong p
+-- the bytes of a list's first form, none where it is a list, and the forms behind it
+abbrev pub headed : Rule (List ℕ × List Reading)
+headed p [] = wrong p
+headed p (head ∷ fs) = Ok (head.text, fs)
+
+-- the forms behind a word that begins a list
+abbrev pub behind : List ℕ → Rule (List Reading)
+behind word p fs = do
+  h ← headed p fs
+  if same h.0 word then Ok h.1 else wrong p
 
 -- one form of a kind, and no more
 abbrev pub alone : {A : Type 0} → Kind A → Rule A
@@ -118,14 +127,14 @@ abbrev pub some : {A : Type 0} → Kind A → Rule (List A)
 some kind p [] = missing p
 some kind p (f ∷ fs) = each kind (f ∷ fs)
 
--- NAME
-abbrev pub name : Kind Name
-name f = if is_name f.text then Ok f.text else wrong f.at
-
 -- what is there, else the form is wrong
 abbrev pub known : {A : Type 0} → Place → Option A → Answer A
 known p None = wrong p
 known p (Some a) = Ok a
+
+-- NAME
+abbrev pub name : Kind Name
+name f = known f.at (name_of f.text)
 
 -- number
 abbrev pub number : Kind ℕ

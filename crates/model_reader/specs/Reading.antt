@@ -1,13 +1,15 @@
 -- What each form is read as, and what each text is.
-use Rattle.std.specs.Prelude.{◌≡◌, ℕ, ◌+◌, List, [], map, length, Ok, Err, Some, None, codes}
+use Rattle.std.specs.Prelude.{◌≡◌, ℕ, ◌+◌, List, [], map, length, Result, Ok, Err, Some, None, codes}
 use Rattle.rup_base.specs.declared.arg.Place.{Place}
-use Rattle.rup_base.specs.declared.refusal.Refusal.TheVariants.{OverLimit}
+use Rattle.rup_base.specs.Answers.{and_then}
+use Rattle.rup_base.specs.declared.refusal.Refusal.{Refusal}
+use Rattle.rup_base.specs.declared.refusal.Refusal.TheVariants.{NotModel, OverLimit}
 use Rattle.sx_text.specs.declared.tree.Sx.{Sx, Sx-F, fold-Sx}
 use Rattle.sx_text.specs.declared.tree.Sx.TheOpen as x
 use Rattle.sx_text.specs.Forms.{place, read}
 use Rattle.model_syntax.specs.Limits.{over_limit}
 use Rattle.model_syntax.specs.declared.program.Model.{Model}
-use Rattle.model_reader.specs.Parts.{Answer, Reading, ◌>>=◌, wrong, each, alone, name}
+use Rattle.model_reader.specs.Parts.{Answer, Reading, wrong, each, alone, name}
 use Rattle.model_reader.specs.Expressions.{atom_expr, list_expr, entries_of}
 use Rattle.model_reader.specs.Facts.{atom_side, list_side, list_fact, facts_of}
 use Rattle.model_reader.specs.Statements.{list_stmt, block_of}
@@ -73,12 +75,15 @@ model_of_forms size forms = whole (place 0 (size + 1)) (map reading forms)
 abbrev pub Reads : List ℕ → Model → Type 0
 Reads bytes m = (forms : List Sx) × (read 0 bytes ≡ Ok forms) × (model_of_forms (length bytes) forms ≡ Ok m)
 
-abbrev pub limited : Model → Answer Model
+-- what the forms of a model's file are read as; its grammar is refused as no model
+abbrev pub not_model : {A : Type 0} → Answer A → Result A Refusal
+not_model (Ok a) = Ok a
+not_model (Err at) = Err (NotModel at)
+
+abbrev pub limited : Model → Result Model Refusal
 limited m = elim (over_limit m) [ None ↦ Ok m | Some (which, count) ↦ Err (OverLimit which count) ]
 
 -- the model of a file's bytes: first the text, then the grammar, then the limits
-abbrev pub read_model : ℕ → List ℕ → Answer Model
-read_model word bytes = do
-  forms ← read word bytes
-  m ← model_of_forms (length bytes) forms
-  limited m
+abbrev pub read_model : ℕ → List ℕ → Result Model Refusal
+read_model word bytes =
+    and_then (read word bytes) (λ forms. and_then (not_model (model_of_forms (length bytes) forms)) limited)

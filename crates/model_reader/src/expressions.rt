@@ -1,43 +1,37 @@
 //! Expressions.
 ghost use Rattle.std.specs.Prelude.{◌≡◌, map};
-ghost use Rattle.rup_base.specs.Answers.{Answers};
+ghost use Rattle.model_reader.specs.Yields.{Yields};
 ghost use Rattle.model_reader.specs.Parts as parts;
 ghost use Rattle.model_reader.specs.Expressions as spec;
 ghost use Rattle.model_reader.specs.Reading.{reading};
 
-use crate::names::{name_at, read_name};
+use crate::names::read_name;
 use crate::numbers::{number_of, read_number};
-use crate::parts::{end, missing, place_of, text_of, wrong};
+use crate::parts::{
+    Misread, end, form_at, headed, kids_of, known, missing, place_of, text_of, wrong,
+};
 use crate::words::{ExprWord, expr_word, scalar_of};
 use model_syntax::{Expr, Scalar};
-use rup_base::{Box, Fail, List, Name, Place};
+use rup_base::{Box, List, Name, Place};
 use std::alloc::Global;
 use sx_text::Sx;
 
+/// The expression that a form is.
 #[cycle(expr)]
-pub fn read_expr(alloc: Global, form: &Sx) -> Result<Expr, Fail>
-    ensures { Answers result (spec.expr (reading form.now)) }
+pub fn read_expr(alloc: Global, form: &Sx) -> Result<Expr, Misread>
+    ensures { Yields result (spec.expr (reading form.now)) }
 {
-    match form {
-        Sx::Atom(p, text) => atom_expr(alloc, *p, text.as_slice()),
-        Sx::Kids(p, kids) => list_expr(alloc, *p, kids.as_slice()),
+    if let Sx::Atom(p, text) = form {
+        return atom_expr(alloc, *p, text.as_slice());
     }
+    let (p, kids) = kids_of(form)?;
+    let (head, args) = headed(p, kids)?;
+    let word = known(p, expr_word(head))?;
+    worded_expr(alloc, word, p, args)
 }
 
-#[cycle(expr)]
-#[tactic(auto, using(crate::proofs::Nth::nth_in, crate::proofs::Nth::nth_out))]
-pub fn expr_at(alloc: Global, p: Place, kids: &[Sx], i: usize) -> Result<Expr, Fail>
-    ensures { Answers result (parts.nth i spec.expr p (map reading kids.now)) }
-{
-    if i < kids.len() {
-        read_expr(alloc, &kids[i])
-    } else {
-        Err(missing(p))
-    }
-}
-
-fn atom_expr(alloc: Global, p: Place, text: &[u8]) -> Result<Expr, Fail>
-    ensures { Answers result (spec.atom_expr p text.now) }
+fn atom_expr(alloc: Global, p: Place, text: &[u8]) -> Result<Expr, Misread>
+    ensures { Yields result (spec.atom_expr p text.now) }
 {
     if let Some(number) = number_of(text) {
         return Ok(Expr::Lit(number));
@@ -49,118 +43,89 @@ fn atom_expr(alloc: Global, p: Place, text: &[u8]) -> Result<Expr, Fail>
 }
 
 #[cycle(expr)]
-fn list_expr(alloc: Global, p: Place, kids: &[Sx]) -> Result<Expr, Fail>
-    ensures { Answers result (spec.list_expr p (map reading kids.now)) }
-{
-    let [head, ..] = kids else {
-        return Err(wrong(p));
-    };
-    match expr_word(text_of(head)) {
-        Some(word) => worded_expr(alloc, word, p, kids),
-        None => Err(wrong(p)),
-    }
-}
-
-#[cycle(expr)]
-fn worded_expr(alloc: Global, word: ExprWord, p: Place, kids: &[Sx]) -> Result<Expr, Fail>
-    ensures { Answers result (spec.worded_expr word p (map reading kids.now)) }
+fn worded_expr(alloc: Global, word: ExprWord, p: Place, args: &[Sx]) -> Result<Expr, Misread>
+    ensures { Yields result (spec.worded_expr word p (map reading args.now)) }
 {
     match word {
         ExprWord::Bin(op) => {
-            let (left, right) = two_of(alloc, p, kids)?;
+            let (left, right) = two_of(alloc, p, args)?;
             Ok(Expr::Bin(op, left, right))
         }
         ExprWord::Test(cmp) => {
-            let (left, right) = two_of(alloc, p, kids)?;
+            let (left, right) = two_of(alloc, p, args)?;
             Ok(Expr::Test(cmp, left, right))
         }
-        ExprWord::Length => length_of(alloc, p, kids),
-        ExprWord::Not => Ok(Expr::Not(one_of(alloc, p, kids)?)),
+        ExprWord::Length => length_of(alloc, p, args),
+        ExprWord::Not => Ok(Expr::Not(one_of(alloc, p, args)?)),
         ExprWord::Both => {
-            let (left, right) = two_of(alloc, p, kids)?;
+            let (left, right) = two_of(alloc, p, args)?;
             Ok(Expr::Both(left, right))
         }
         ExprWord::Either => {
-            let (left, right) = two_of(alloc, p, kids)?;
+            let (left, right) = two_of(alloc, p, args)?;
             Ok(Expr::Either(left, right))
         }
-        ExprWord::ToWord => Ok(Expr::ToWord(one_of(alloc, p, kids)?)),
-        ExprWord::ToByte => Ok(Expr::ToByte(one_of(alloc, p, kids)?)),
-        ExprWord::Get => get_of(alloc, p, kids),
-        ExprWord::Tab => tab_of(alloc, p, kids),
+        ExprWord::ToWord => Ok(Expr::ToWord(one_of(alloc, p, args)?)),
+        ExprWord::ToByte => Ok(Expr::ToByte(one_of(alloc, p, args)?)),
+        ExprWord::Get => get_of(alloc, p, args),
+        ExprWord::Tab => tab_of(alloc, p, args),
     }
 }
 
 #[cycle(expr)]
-fn one_of(alloc: Global, p: Place, kids: &[Sx]) -> Result<Box<Expr>, Fail>
-    ensures { Answers result (spec.one_of p (map reading kids.now)) }
+fn one_of(alloc: Global, p: Place, args: &[Sx]) -> Result<Box<Expr>, Misread>
+    ensures { Yields result (spec.one_of p (map reading args.now)) }
 {
-    let operand = expr_at(alloc, p, kids, 1)?;
-    end(kids, 2)?;
+    let operand = read_expr(alloc, form_at(p, args, 0)?)?;
+    end(args, 1)?;
     Ok(Box::new(alloc, operand)?)
 }
 
 #[cycle(expr)]
-fn two_of(alloc: Global, p: Place, kids: &[Sx]) -> Result<(Box<Expr>, Box<Expr>), Fail>
-    ensures { Answers result (spec.two_of p (map reading kids.now)) }
+fn two_of(alloc: Global, p: Place, args: &[Sx]) -> Result<(Box<Expr>, Box<Expr>), Misread>
+    ensures { Yields result (spec.two_of p (map reading args.now)) }
 {
-    let left = expr_at(alloc, p, kids, 1)?;
-    let right = expr_at(alloc, p, kids, 2)?;
-    end(kids, 3)?;
+    let left = read_expr(alloc, form_at(p, args, 0)?)?;
+    let right = read_expr(alloc, form_at(p, args, 1)?)?;
+    end(args, 2)?;
     let left = Box::new(alloc, left)?;
     let right = Box::new(alloc, right)?;
     Ok((left, right))
 }
 
-fn length_of(alloc: Global, p: Place, kids: &[Sx]) -> Result<Expr, Fail>
-    ensures { Answers result (spec.length_of p (map reading kids.now)) }
+fn length_of(alloc: Global, p: Place, args: &[Sx]) -> Result<Expr, Misread>
+    ensures { Yields result (spec.length_of p (map reading args.now)) }
 {
-    let a = name_at(alloc, p, kids, 1)?;
-    end(kids, 2)?;
+    let a = read_name(alloc, form_at(p, args, 0)?)?;
+    end(args, 1)?;
     Ok(Expr::Length(a))
 }
 
 #[cycle(expr)]
-fn get_of(alloc: Global, p: Place, kids: &[Sx]) -> Result<Expr, Fail>
-    ensures { Answers result (spec.get_of p (map reading kids.now)) }
+fn get_of(alloc: Global, p: Place, args: &[Sx]) -> Result<Expr, Misread>
+    ensures { Yields result (spec.get_of p (map reading args.now)) }
 {
-    let a = name_at(alloc, p, kids, 1)?;
-    let index = expr_at(alloc, p, kids, 2)?;
-    end(kids, 3)?;
-    let index = Box::new(alloc, index)?;
-    Ok(Expr::Get(a, index))
+    let a = read_name(alloc, form_at(p, args, 0)?)?;
+    let index = read_expr(alloc, form_at(p, args, 1)?)?;
+    end(args, 2)?;
+    Ok(Expr::Get(a, Box::new(alloc, index)?))
 }
 
 #[cycle(expr)]
-fn tab_of(alloc: Global, p: Place, kids: &[Sx]) -> Result<Expr, Fail>
-    ensures { Answers result (spec.tab_of p (map reading kids.now)) }
+fn tab_of(alloc: Global, p: Place, args: &[Sx]) -> Result<Expr, Misread>
+    ensures { Yields result (spec.tab_of p (map reading args.now)) }
 {
-    let scalar = table_scalar_at(p, kids, 1)?;
-    let entries = entries_at(alloc, scalar, p, kids, 2)?;
-    let index = expr_at(alloc, p, kids, 3)?;
-    end(kids, 4)?;
-    let index = Box::new(alloc, index)?;
-    Ok(Expr::Tab(scalar, entries, index))
+    let scalar = read_table_scalar(form_at(p, args, 0)?)?;
+    let entries = read_entries(alloc, scalar, form_at(p, args, 1)?)?;
+    let index = read_expr(alloc, form_at(p, args, 2)?)?;
+    end(args, 3)?;
+    Ok(Expr::Tab(scalar, entries, Box::new(alloc, index)?))
 }
 
-fn read_table_scalar(form: &Sx) -> Result<Scalar, Fail>
-    ensures { Answers result (spec.table_scalar (reading form.now)) }
+fn read_table_scalar(form: &Sx) -> Result<Scalar, Misread>
+    ensures { Yields result (spec.table_scalar (reading form.now)) }
 {
-    match scalar_of(text_of(form)) {
-        Some(scalar) => Ok(scalar),
-        None => Err(wrong(place_of(form))),
-    }
-}
-
-#[tactic(auto, using(crate::proofs::Nth::nth_in, crate::proofs::Nth::nth_out))]
-fn table_scalar_at(p: Place, kids: &[Sx], i: usize) -> Result<Scalar, Fail>
-    ensures { Answers result (parts.nth i spec.table_scalar p (map reading kids.now)) }
-{
-    if i < kids.len() {
-        read_table_scalar(&kids[i])
-    } else {
-        Err(missing(p))
-    }
+    known(place_of(form), scalar_of(text_of(form)))
 }
 
 /// The entry fits the type that the table names.
@@ -174,8 +139,8 @@ fn fits(scalar: Scalar, entry: u32) -> bool
     }
 }
 
-fn read_entry(scalar: Scalar, form: &Sx) -> Result<u32, Fail>
-    ensures { Answers result (spec.entry scalar (reading form.now)) }
+fn read_entry(scalar: Scalar, form: &Sx) -> Result<u32, Misread>
+    ensures { Yields result (spec.entry scalar (reading form.now)) }
 {
     let entry = read_number(form)?;
     if fits(scalar, entry) {
@@ -185,47 +150,22 @@ fn read_entry(scalar: Scalar, form: &Sx) -> Result<u32, Fail>
     }
 }
 
-fn each_entry(alloc: Global, scalar: Scalar, kids: &[Sx]) -> Result<List<u32>, Fail>
-    ensures { Answers result (parts.each (spec.entry scalar) (map reading kids.now)) }
+fn each_entry(alloc: Global, scalar: Scalar, forms: &[Sx]) -> Result<List<u32>, Misread>
+    ensures { Yields result (parts.each (spec.entry scalar) (map reading forms.now)) }
 {
     let mut entries = List::new(alloc);
-    for form in kids {
+    for form in forms {
         entries.push(read_entry(scalar, form)?)?;
     }
     Ok(entries)
 }
 
-fn entries_of(alloc: Global, scalar: Scalar, p: Place, kids: &[Sx]) -> Result<List<u32>, Fail>
-    ensures { Answers result (spec.entries_of scalar p (map reading kids.now)) }
+fn read_entries(alloc: Global, scalar: Scalar, form: &Sx) -> Result<List<u32>, Misread>
+    ensures { Yields result (spec.entries scalar (reading form.now)) }
 {
-    match kids {
+    let (p, forms) = kids_of(form)?;
+    match forms {
         [] => Err(missing(p)),
-        [_, ..] => each_entry(alloc, scalar, kids),
-    }
-}
-
-fn read_entries(alloc: Global, scalar: Scalar, form: &Sx) -> Result<List<u32>, Fail>
-    ensures { Answers result (spec.entries scalar (reading form.now)) }
-{
-    match form {
-        Sx::Atom(p, _) => Err(wrong(*p)),
-        Sx::Kids(p, kids) => entries_of(alloc, scalar, *p, kids.as_slice()),
-    }
-}
-
-#[tactic(auto, using(crate::proofs::Nth::nth_in, crate::proofs::Nth::nth_out))]
-fn entries_at(
-    alloc: Global,
-    scalar: Scalar,
-    p: Place,
-    kids: &[Sx],
-    i: usize,
-) -> Result<List<u32>, Fail>
-    ensures { Answers result (parts.nth i (spec.entries scalar) p (map reading kids.now)) }
-{
-    if i < kids.len() {
-        read_entries(alloc, scalar, &kids[i])
-    } else {
-        Err(missing(p))
+        [_, ..] => each_entry(alloc, scalar, forms),
     }
 }

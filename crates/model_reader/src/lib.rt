@@ -14,4 +14,11 @@ mod reader;
 mod statements;
 mod words;
 
-pub use reader::{read_model, text_is_of_formed_model};
+pub use expressions::read_expr;
+pub use facts::{facts_of, read_fact};
+pub use names::{read_element, read_name, read_names};
+pub use numbers::{number_of, read_number};
+pub use parts::{
+    Misread, behind, end, form_at, headed, kids_of, known, missing, place_of, text_of, wrong,
+};
+pub use reader::{form_is_of_formed_term, read_model, text_is_of_formed_model};

@@ -1,24 +1,25 @@
 //! Parameters, results and models.
-ghost use Rattle.std.specs.Prelude.{◌≡◌, ◌+◌, ◌<◌, ◌^◌, map};
-ghost use Rattle.rup_base.specs.Answers.{Answers};
-ghost use Rattle.sx_text.specs.Forms.{place};
+ghost use Rattle.std.specs.Prelude.{◌≡◌, map};
+ghost use Rattle.model_reader.specs.Yields.{Yields};
 ghost use Rattle.model_reader.specs.Parts as parts;
 ghost use Rattle.model_reader.specs.Models as spec;
 ghost use Rattle.model_reader.specs.Reading.{reading};
 
 use crate::facts::facts_of;
-use crate::names::name_at;
+use crate::names::read_name;
 use crate::numbers::number_of;
-use crate::parts::{end, missing, place_of, text_of, wrong};
-use crate::statements::block_at;
+use crate::parts::{
+    Misread, behind, end, form_at, headed, kids_of, known, place_of, text_of, wrong,
+};
+use crate::statements::read_block;
 use crate::words::{array_of, is, scalar_of};
 use model_syntax::{Le, Len, Model, Param, Ret, Scalar};
-use rup_base::{Fail, List, Name, Place};
+use rup_base::{List, Name, Place};
 use std::alloc::Global;
 use sx_text::Sx;
 
-fn read_length(alloc: Global, form: &Sx) -> Result<Len, Fail>
-    ensures { Answers result (spec.len (reading form.now)) }
+fn read_length(alloc: Global, form: &Sx) -> Result<Len, Misread>
+    ensures { Yields result (spec.len (reading form.now)) }
 {
     if let Some(number) = number_of(text_of(form)) {
         return Ok(Len::Fixed(number));
@@ -26,17 +27,6 @@ fn read_length(alloc: Global, form: &Sx) -> Result<Len, Fail>
     match Name::read(alloc, text_of(form))? {
         Some(x) => Ok(Len::Named(x)),
         None => Err(wrong(place_of(form))),
-    }
-}
-
-#[tactic(auto, using(crate::proofs::Nth::nth_in, crate::proofs::Nth::nth_out))]
-fn length_at(alloc: Global, p: Place, kids: &[Sx], i: usize) -> Result<Len, Fail>
-    ensures { Answers result (parts.nth i spec.len p (map reading kids.now)) }
-{
-    if i < kids.len() {
-        read_length(alloc, &kids[i])
-    } else {
-        Err(missing(p))
     }
 }
 
@@ -63,152 +53,66 @@ fn array_of_length(
     x: Name,
     scalar: Scalar,
     p: Place,
-    kids: &[Sx],
-) -> Result<Param, Fail>
-    ensures { Answers result (spec.array_of_length x scalar p (map reading kids.now)) }
+    args: &[Sx],
+) -> Result<Param, Misread>
+    ensures { Yields result (spec.array_of_length x scalar p (map reading args.now)) }
 {
-    let length = length_at(alloc, p, kids, 1)?;
-    end(kids, 2)?;
+    let length = read_length(alloc, form_at(p, args, 0)?)?;
+    end(args, 1)?;
     Ok(array_param(x, length, scalar))
 }
 
-fn list_sort(alloc: Global, x: Name, p: Place, kids: &[Sx]) -> Result<Param, Fail>
-    ensures { Answers result (spec.list_sort p (map reading kids.now) x) }
-{
-    let [head, ..] = kids else {
-        return Err(wrong(p));
-    };
-    match array_of(text_of(head)) {
-        Some(scalar) => array_of_length(alloc, x, scalar, p, kids),
-        None => Err(wrong(p)),
-    }
-}
-
-fn atom_sort(x: Name, p: Place, text: &[u8]) -> Result<Param, Fail>
-    ensures { Answers result (spec.atom_sort p text.now x) }
-{
-    match scalar_of(text) {
-        Some(scalar) => Ok(scalar_param(x, scalar)),
-        None => Err(wrong(p)),
-    }
-}
-
 /// The type of the parameter `x`.
-fn read_sort(alloc: Global, x: Name, form: &Sx) -> Result<Param, Fail>
-    ensures { Answers result (spec.sort x (reading form.now)) }
+fn read_sort(alloc: Global, x: Name, form: &Sx) -> Result<Param, Misread>
+    ensures { Yields result (spec.sort x (reading form.now)) }
 {
-    match form {
-        Sx::Atom(p, text) => atom_sort(x, *p, text.as_slice()),
-        Sx::Kids(p, kids) => list_sort(alloc, x, *p, kids.as_slice()),
+    if let Sx::Atom(p, text) = form {
+        return Ok(scalar_param(x, known(*p, scalar_of(text.as_slice()))?));
     }
+    let (p, kids) = kids_of(form)?;
+    let (head, args) = headed(p, kids)?;
+    let scalar = known(p, array_of(head))?;
+    array_of_length(alloc, x, scalar, p, args)
 }
 
-#[tactic(auto, using(crate::proofs::Nth::nth_in, crate::proofs::Nth::nth_out))]
-fn sort_at(alloc: Global, x: Name, p: Place, kids: &[Sx], i: usize) -> Result<Param, Fail>
-    ensures { Answers result (parts.nth i (spec.sort x) p (map reading kids.now)) }
+fn read_param(alloc: Global, form: &Sx) -> Result<Param, Misread>
+    ensures { Yields result (spec.param (reading form.now)) }
 {
-    if i < kids.len() {
-        read_sort(alloc, x, &kids[i])
-    } else {
-        Err(missing(p))
-    }
-}
-
-fn typed_name(alloc: Global, x: Name, p: Place, kids: &[Sx]) -> Result<Param, Fail>
-    ensures { Answers result (spec.typed_name x p (map reading kids.now)) }
-{
-    let param = sort_at(alloc, x, p, kids, 1)?;
-    end(kids, 2)?;
+    let (p, kids) = kids_of(form)?;
+    let (head, args) = headed(p, kids)?;
+    let x = known(p, Name::read(alloc, head)?)?;
+    let param = read_sort(alloc, x, form_at(p, args, 0)?)?;
+    end(args, 1)?;
     Ok(param)
 }
 
-fn list_param(alloc: Global, p: Place, kids: &[Sx]) -> Result<Param, Fail>
-    ensures { Answers result (spec.list_param p (map reading kids.now)) }
-{
-    let [head, ..] = kids else {
-        return Err(wrong(p));
-    };
-    match Name::read(alloc, text_of(head))? {
-        Some(x) => typed_name(alloc, x, p, kids),
-        None => Err(wrong(p)),
-    }
-}
-
-fn read_param(alloc: Global, form: &Sx) -> Result<Param, Fail>
-    ensures { Answers result (spec.param (reading form.now)) }
-{
-    match form {
-        Sx::Atom(p, _) => Err(wrong(*p)),
-        Sx::Kids(p, kids) => list_param(alloc, *p, kids.as_slice()),
-    }
-}
-
-fn each_param(alloc: Global, kids: &[Sx]) -> Result<List<Param>, Fail>
-    ensures { Answers result (parts.each spec.param (map reading kids.now)) }
+fn each_param(alloc: Global, forms: &[Sx]) -> Result<List<Param>, Misread>
+    ensures { Yields result (parts.each spec.param (map reading forms.now)) }
 {
     let mut params = List::new(alloc);
-    for form in kids {
+    for form in forms {
         params.push(read_param(alloc, form)?)?;
     }
     Ok(params)
 }
 
-fn params_of(alloc: Global, p: Place, kids: &[Sx]) -> Result<List<Param>, Fail>
-    ensures { Answers result (spec.params_of p (map reading kids.now)) }
+fn read_params(alloc: Global, form: &Sx) -> Result<List<Param>, Misread>
+    ensures { Yields result (spec.params (reading form.now)) }
 {
-    let [head, params @ ..] = kids else {
-        return Err(wrong(p));
-    };
-    if is(text_of(head), b"params") {
-        each_param(alloc, params)
-    } else {
-        Err(wrong(p))
-    }
+    let (p, kids) = kids_of(form)?;
+    each_param(alloc, behind(b"params", p, kids)?)
 }
 
-fn read_params(alloc: Global, form: &Sx) -> Result<List<Param>, Fail>
-    ensures { Answers result (spec.params (reading form.now)) }
+fn read_requires(alloc: Global, form: &Sx) -> Result<List<Le>, Misread>
+    ensures { Yields result (spec.requires_ (reading form.now)) }
 {
-    match form {
-        Sx::Atom(p, _) => Err(wrong(*p)),
-        Sx::Kids(p, kids) => params_of(alloc, *p, kids.as_slice()),
-    }
-}
-
-#[tactic(auto, using(crate::proofs::Nth::nth_in, crate::proofs::Nth::nth_out))]
-fn params_at(alloc: Global, p: Place, kids: &[Sx], i: usize) -> Result<List<Param>, Fail>
-    ensures { Answers result (parts.nth i spec.params p (map reading kids.now)) }
-{
-    if i < kids.len() {
-        read_params(alloc, &kids[i])
-    } else {
-        Err(missing(p))
-    }
-}
-
-fn read_requires(alloc: Global, form: &Sx) -> Result<List<Le>, Fail>
-    ensures { Answers result (spec.requires_ (reading form.now)) }
-{
-    match form {
-        Sx::Atom(p, _) => Err(wrong(*p)),
-        Sx::Kids(p, kids) => facts_of(alloc, b"require", *p, kids.as_slice()),
-    }
-}
-
-#[tactic(auto, using(crate::proofs::Nth::nth_in, crate::proofs::Nth::nth_out))]
-fn requires_at(alloc: Global, p: Place, kids: &[Sx], i: usize) -> Result<List<Le>, Fail>
-    ensures { Answers result (parts.nth i spec.requires_ p (map reading kids.now)) }
-{
-    if i < kids.len() {
-        read_requires(alloc, &kids[i])
-    } else {
-        Err(missing(p))
-    }
+    let (p, kids) = kids_of(form)?;
+    facts_of(alloc, b"require", p, kids)
 }
 
 /// Refuses another form than the word `in`.
-fn read_in(form: &Sx) -> Result<(), Fail>
-    ensures { Answers result (spec.in_word (reading form.now)) }
+fn read_in(form: &Sx) -> Result<(), Misread>
+    ensures { Yields result (spec.in_word (reading form.now)) }
 {
     if is(text_of(form), b"in") {
         Ok(())
@@ -217,108 +121,52 @@ fn read_in(form: &Sx) -> Result<(), Fail>
     }
 }
 
-#[tactic(auto, using(crate::proofs::Nth::nth_in, crate::proofs::Nth::nth_out))]
-fn in_at(p: Place, kids: &[Sx], i: usize) -> Result<(), Fail>
-    ensures { Answers result (parts.nth i spec.in_word p (map reading kids.now)) }
+fn list_ret(alloc: Global, p: Place, kids: &[Sx]) -> Result<Ret, Misread>
+    ensures { Yields result (spec.list_ret p (map reading kids.now)) }
 {
-    if i < kids.len() {
-        read_in(&kids[i])
-    } else {
-        Err(missing(p))
-    }
-}
-
-fn array_ret(alloc: Global, a: Name, p: Place, kids: &[Sx]) -> Result<Ret, Fail>
-    ensures { Answers result (spec.array_ret a p (map reading kids.now)) }
-{
-    in_at(p, kids, 1)?;
-    let owner = name_at(alloc, p, kids, 2)?;
-    end(kids, 3)?;
+    let (head, args) = headed(p, kids)?;
+    let a = known(p, Name::read(alloc, head)?)?;
+    read_in(form_at(p, args, 0)?)?;
+    let owner = read_name(alloc, form_at(p, args, 1)?)?;
+    end(args, 2)?;
     Ok(Ret::Array(a, owner))
 }
 
-fn list_ret(alloc: Global, p: Place, kids: &[Sx]) -> Result<Ret, Fail>
-    ensures { Answers result (spec.list_ret p (map reading kids.now)) }
-{
-    let [head, ..] = kids else {
-        return Err(wrong(p));
-    };
-    match Name::read(alloc, text_of(head))? {
-        Some(a) => array_ret(alloc, a, p, kids),
-        None => Err(wrong(p)),
-    }
-}
-
-fn atom_ret(alloc: Global, p: Place, text: &[u8]) -> Result<Ret, Fail>
-    ensures { Answers result (spec.atom_ret p text.now) }
-{
-    match Name::read(alloc, text)? {
-        Some(x) => Ok(Ret::Scalar(x)),
-        None => Err(wrong(p)),
-    }
-}
-
-fn read_ret(alloc: Global, form: &Sx) -> Result<Ret, Fail>
-    ensures { Answers result (spec.ret (reading form.now)) }
+fn read_ret(alloc: Global, form: &Sx) -> Result<Ret, Misread>
+    ensures { Yields result (spec.ret (reading form.now)) }
 {
     match form {
-        Sx::Atom(p, text) => atom_ret(alloc, *p, text.as_slice()),
+        Sx::Atom(p, text) => Ok(Ret::Scalar(known(*p, Name::read(alloc, text.as_slice())?)?)),
         Sx::Kids(p, kids) => list_ret(alloc, *p, kids.as_slice()),
     }
 }
 
-fn each_ret(alloc: Global, kids: &[Sx]) -> Result<List<Ret>, Fail>
-    ensures { Answers result (parts.each spec.ret (map reading kids.now)) }
+fn each_ret(alloc: Global, forms: &[Sx]) -> Result<List<Ret>, Misread>
+    ensures { Yields result (parts.each spec.ret (map reading forms.now)) }
 {
     let mut rets = List::new(alloc);
-    for form in kids {
+    for form in forms {
         rets.push(read_ret(alloc, form)?)?;
     }
     Ok(rets)
 }
 
-fn rets_of(alloc: Global, p: Place, kids: &[Sx]) -> Result<List<Ret>, Fail>
-    ensures { Answers result (spec.rets_of p (map reading kids.now)) }
+fn read_rets(alloc: Global, form: &Sx) -> Result<List<Ret>, Misread>
+    ensures { Yields result (spec.rets (reading form.now)) }
 {
-    let [head, rets @ ..] = kids else {
-        return Err(wrong(p));
-    };
-    if is(text_of(head), b"ret") {
-        each_ret(alloc, rets)
-    } else {
-        Err(wrong(p))
-    }
+    let (p, kids) = kids_of(form)?;
+    each_ret(alloc, behind(b"ret", p, kids)?)
 }
 
-fn read_rets(alloc: Global, form: &Sx) -> Result<List<Ret>, Fail>
-    ensures { Answers result (spec.rets (reading form.now)) }
+fn model_of(alloc: Global, p: Place, args: &[Sx]) -> Result<Model, Misread>
+    ensures { Yields result (spec.model_of p (map reading args.now)) }
 {
-    match form {
-        Sx::Atom(p, _) => Err(wrong(*p)),
-        Sx::Kids(p, kids) => rets_of(alloc, *p, kids.as_slice()),
-    }
-}
-
-#[tactic(auto, using(crate::proofs::Nth::nth_in, crate::proofs::Nth::nth_out))]
-fn rets_at(alloc: Global, p: Place, kids: &[Sx], i: usize) -> Result<List<Ret>, Fail>
-    ensures { Answers result (parts.nth i spec.rets p (map reading kids.now)) }
-{
-    if i < kids.len() {
-        read_rets(alloc, &kids[i])
-    } else {
-        Err(missing(p))
-    }
-}
-
-fn model_of(alloc: Global, p: Place, kids: &[Sx]) -> Result<Model, Fail>
-    ensures { Answers result (spec.model_of p (map reading kids.now)) }
-{
-    let name = name_at(alloc, p, kids, 1)?;
-    let params = params_at(alloc, p, kids, 2)?;
-    let requires_ = requires_at(alloc, p, kids, 3)?;
-    let body = block_at(alloc, p, kids, 4)?;
-    let rets = rets_at(alloc, p, kids, 5)?;
-    end(kids, 6)?;
+    let name = read_name(alloc, form_at(p, args, 0)?)?;
+    let params = read_params(alloc, form_at(p, args, 1)?)?;
+    let requires_ = read_requires(alloc, form_at(p, args, 2)?)?;
+    let body = read_block(alloc, form_at(p, args, 3)?)?;
+    let rets = read_rets(alloc, form_at(p, args, 4)?)?;
+    end(args, 5)?;
     Ok(Model {
         name,
         params,
@@ -328,44 +176,18 @@ fn model_of(alloc: Global, p: Place, kids: &[Sx]) -> Result<Model, Fail>
     })
 }
 
-fn list_model(alloc: Global, p: Place, kids: &[Sx]) -> Result<Model, Fail>
-    ensures { Answers result (spec.list_model p (map reading kids.now)) }
+fn read_model_form(alloc: Global, form: &Sx) -> Result<Model, Misread>
+    ensures { Yields result (spec.model (reading form.now)) }
 {
-    let [head, ..] = kids else {
-        return Err(wrong(p));
-    };
-    if is(text_of(head), b"model") {
-        model_of(alloc, p, kids)
-    } else {
-        Err(wrong(p))
-    }
-}
-
-fn read_model_form(alloc: Global, form: &Sx) -> Result<Model, Fail>
-    ensures { Answers result (spec.model (reading form.now)) }
-{
-    match form {
-        Sx::Atom(p, _) => Err(wrong(*p)),
-        Sx::Kids(p, kids) => list_model(alloc, *p, kids.as_slice()),
-    }
-}
-
-#[tactic(auto, using(crate::proofs::Nth::nth_in, crate::proofs::Nth::nth_out))]
-fn model_at(alloc: Global, p: Place, kids: &[Sx], i: usize) -> Result<Model, Fail>
-    ensures { Answers result (parts.nth i spec.model p (map reading kids.now)) }
-{
-    if i < kids.len() {
-        read_model_form(alloc, &kids[i])
-    } else {
-        Err(missing(p))
-    }
+    let (p, kids) = kids_of(form)?;
+    model_of(alloc, p, behind(b"model", p, kids)?)
 }
 
 /// The only form of a text as a model. `p` ends one byte behind the text's last byte, where a form is missing.
-pub fn whole(alloc: Global, p: Place, forms: &[Sx]) -> Result<Model, Fail>
-    ensures { Answers result (spec.whole p (map reading forms.now)) }
+pub fn whole(alloc: Global, p: Place, forms: &[Sx]) -> Result<Model, Misread>
+    ensures { Yields result (spec.whole p (map reading forms.now)) }
 {
-    let m = model_at(alloc, p, forms, 0)?;
+    let m = read_model_form(alloc, form_at(p, forms, 0)?)?;
     end(forms, 1)?;
     Ok(m)
 }

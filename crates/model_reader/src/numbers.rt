@@ -1,13 +1,12 @@
 //! Numbers of the text.
-ghost use Rattle.std.specs.Prelude.{◌≡◌, ◌≤◌, map};
+ghost use Rattle.std.specs.Prelude.{◌≡◌, ◌≤◌};
 ghost use Rattle.std.specs.Char.{digit_value};
-ghost use Rattle.rup_base.specs.Answers.{Answers};
+ghost use Rattle.model_reader.specs.Yields.{Yields};
 ghost use Rattle.model_reader.specs.Numbers as spec;
 ghost use Rattle.model_reader.specs.Parts as parts;
 ghost use Rattle.model_reader.specs.Reading.{reading};
 
-use crate::parts::{missing, place_of, text_of, wrong};
-use rup_base::{Fail, Place};
+use crate::parts::{Misread, known, place_of, text_of};
 use sx_text::Sx;
 
 /// The value of a digit or a letter: 10 to 35 for a letter of either case, and 36 for another byte.
@@ -85,22 +84,9 @@ pub fn number_of(text: &[u8]) -> Option<u32>
     }
 }
 
-pub fn read_number(form: &Sx) -> Result<u32, Fail>
-    ensures { Answers result (parts.number (reading form.now)) }
+/// The number that a form is.
+pub fn read_number(form: &Sx) -> Result<u32, Misread>
+    ensures { Yields result (parts.number (reading form.now)) }
 {
-    match number_of(text_of(form)) {
-        Some(number) => Ok(number),
-        None => Err(wrong(place_of(form))),
-    }
-}
-
-#[tactic(auto, using(crate::proofs::Nth::nth_in, crate::proofs::Nth::nth_out))]
-pub fn number_at(p: Place, kids: &[Sx], i: usize) -> Result<u32, Fail>
-    ensures { Answers result (parts.nth i parts.number p (map reading kids.now)) }
-{
-    if i < kids.len() {
-        read_number(&kids[i])
-    } else {
-        Err(missing(p))
-    }
+    known(place_of(form), number_of(text_of(form)))
 }

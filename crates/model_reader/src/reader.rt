@@ -2,12 +2,17 @@
 ghost use Rattle.std.specs.Prelude.{◌≡◌, ◌≤◌, ◌^◌, ℕ, true, List, length, Ok, IfOk};
 ghost use Rattle.rup_base.specs.Answers.{Answers};
 ghost use Rattle.model_syntax.specs.declared.program.Model as program;
-ghost use Rattle.model_syntax.specs.Formed.{model_formed};
+ghost use Rattle.model_syntax.specs.Formed.{model_formed, expr_formed, fact_formed};
+ghost use Rattle.model_syntax.specs.declared.expr.Expr.{Expr};
+ghost use Rattle.model_syntax.specs.declared.stmt.Le.{Le};
+ghost use Rattle.sx_text.specs.declared.tree.Sx.{Sx};
 ghost use Rattle.model_syntax.specs.Limits.{Within};
-ghost use Rattle.model_syntax.specs.Spelling.{Spellable};
+ghost use Rattle.model_syntax.specs.Spelling.{Spellable, expr_spellable};
 ghost use Rattle.model_reader.specs.Reading as spec;
+ghost use Rattle.model_reader.specs.Reading.{reading};
 
 use crate::models::whole;
+use crate::parts::Misread;
 use model_syntax::{Model, over_limit};
 use rup_base::{Fail, Place, Refusal};
 use std::alloc::Global;
@@ -35,6 +40,13 @@ pub fn text_is_of_formed_model()
     ensures { (bytes : List ℕ) (m : program.Model) → spec.Reads bytes m → (model_formed m ≡ true) × Spellable m }
 {}
 
+/// A law: an expression and a fact that a form is read as are formed, and the text of models can spell the
+/// expression's tables.
+pub fn form_is_of_formed_term()
+    ensures expression { (form : Sx) (a : Expr) → (reading form).expr ≡ Ok a → (expr_formed a ≡ true) × (expr_spellable a ≡ true) }
+    ensures fact { (form : Sx) (r : Le) → (reading form).fact ≡ Ok r → fact_formed r ≡ true }
+{}
+
 fn model_of_text(alloc: Global, word: u32, bytes: &[u8]) -> Result<Model, Fail>
     requires { length bytes.now ≤ 2 ^ 24 }
     ensures { Answers result (spec.read_model word bytes.now) }
@@ -44,8 +56,11 @@ fn model_of_text(alloc: Global, word: u32, bytes: &[u8]) -> Result<Model, Fail>
         start: 0,
         end: bytes.len() as u32 + 1,
     };
-    let m = whole(alloc, place, forms.as_slice())?;
-    within(m)
+    match whole(alloc, place, forms.as_slice()) {
+        Ok(m) => within(m),
+        Err(Misread::At(at)) => Err(Refusal::NotModel { at }.into()),
+        Err(Misread::NoMemory) => Err(Fail::NoMemory),
+    }
 }
 
 fn within(m: Model) -> Result<Model, Fail>

@@ -1,224 +1,156 @@
 //! Statements and blocks.
-ghost use Rattle.std.specs.Prelude.{◌≡◌, map};
-ghost use Rattle.rup_base.specs.Answers.{Answers};
+ghost use Rattle.std.specs.Prelude.{◌≡◌, ◌<◌, ◌^◌, map};
+ghost use Rattle.model_reader.specs.Yields.{Yields};
 ghost use Rattle.model_reader.specs.Parts as parts;
 ghost use Rattle.model_reader.specs.Statements as spec;
 ghost use Rattle.model_reader.specs.Reading.{reading};
 
-use crate::expressions::expr_at;
+use crate::expressions::read_expr;
 use crate::facts::facts_of;
-use crate::names::{element_of, name_at, names_of};
-use crate::parts::{end, missing, text_of, wrong};
-use crate::words::{StmtWord, is, stmt_word};
+use crate::names::{read_element, read_name, read_names};
+use crate::parts::{Misread, behind, end, form_at, headed, kids_of, known};
+use crate::words::{StmtWord, stmt_word};
 use model_syntax::{Expr, Le, Stmt};
-use rup_base::{Fail, List, Name, Place};
+use rup_base::{List, Name, Place};
 use std::alloc::Global;
 use sx_text::Sx;
 
-fn read_names(alloc: Global, form: &Sx) -> Result<List<Name>, Fail>
-    ensures { Answers result (spec.names (reading form.now)) }
+fn read_keep(alloc: Global, form: &Sx) -> Result<List<Le>, Misread>
+    ensures { Yields result (spec.keep (reading form.now)) }
 {
-    match form {
-        Sx::Atom(p, _) => Err(wrong(*p)),
-        Sx::Kids(_, kids) => names_of(alloc, kids.as_slice()),
-    }
-}
-
-#[tactic(auto, using(crate::proofs::Nth::nth_in, crate::proofs::Nth::nth_out))]
-fn names_at(alloc: Global, p: Place, kids: &[Sx], i: usize) -> Result<List<Name>, Fail>
-    ensures { Answers result (parts.nth i spec.names p (map reading kids.now)) }
-{
-    if i < kids.len() {
-        read_names(alloc, &kids[i])
-    } else {
-        Err(missing(p))
-    }
-}
-
-fn read_element(alloc: Global, form: &Sx) -> Result<Name, Fail>
-    ensures { Answers result (spec.element (reading form.now)) }
-{
-    match form {
-        Sx::Atom(p, _) => Err(wrong(*p)),
-        Sx::Kids(p, kids) => element_of(alloc, *p, kids.as_slice()),
-    }
-}
-
-#[tactic(auto, using(crate::proofs::Nth::nth_in, crate::proofs::Nth::nth_out))]
-fn element_at(alloc: Global, p: Place, kids: &[Sx], i: usize) -> Result<Name, Fail>
-    ensures { Answers result (parts.nth i spec.element p (map reading kids.now)) }
-{
-    if i < kids.len() {
-        read_element(alloc, &kids[i])
-    } else {
-        Err(missing(p))
-    }
-}
-
-fn read_keep(alloc: Global, form: &Sx) -> Result<List<Le>, Fail>
-    ensures { Answers result (spec.keep (reading form.now)) }
-{
-    match form {
-        Sx::Atom(p, _) => Err(wrong(*p)),
-        Sx::Kids(p, kids) => facts_of(alloc, b"keep", *p, kids.as_slice()),
-    }
-}
-
-#[tactic(auto, using(crate::proofs::Nth::nth_in, crate::proofs::Nth::nth_out))]
-fn keep_at(alloc: Global, p: Place, kids: &[Sx], i: usize) -> Result<List<Le>, Fail>
-    ensures { Answers result (parts.nth i spec.keep p (map reading kids.now)) }
-{
-    if i < kids.len() {
-        read_keep(alloc, &kids[i])
-    } else {
-        Err(missing(p))
-    }
+    let (p, kids) = kids_of(form)?;
+    facts_of(alloc, b"keep", p, kids)
 }
 
 #[cycle(stmt)]
-fn read_stmt(alloc: Global, form: &Sx) -> Result<Stmt, Fail>
-    ensures { Answers result (spec.stmt (reading form.now)) }
+fn read_stmt(alloc: Global, form: &Sx) -> Result<Stmt, Misread>
+    ensures { Yields result (spec.stmt (reading form.now)) }
 {
-    match form {
-        Sx::Atom(p, _) => Err(wrong(*p)),
-        Sx::Kids(p, kids) => list_stmt(alloc, *p, kids.as_slice()),
+    let (p, kids) = kids_of(form)?;
+    let (head, args) = headed(p, kids)?;
+    match known(p, stmt_word(head))? {
+        StmtWord::Let => let_of(alloc, p, args),
+        StmtWord::Put => put_of(alloc, p, args),
+        StmtWord::Move => move_of(alloc, p, args),
+        StmtWord::If => if_of(alloc, p, args),
+        StmtWord::For => for_of(alloc, p, args),
+        StmtWord::Map => map_of(alloc, p, args),
+        StmtWord::Fold => fold_of(alloc, p, args),
     }
 }
 
-#[cycle(stmt)]
-fn list_stmt(alloc: Global, p: Place, kids: &[Sx]) -> Result<Stmt, Fail>
-    ensures { Answers result (spec.list_stmt p (map reading kids.now)) }
+fn let_of(alloc: Global, p: Place, args: &[Sx]) -> Result<Stmt, Misread>
+    ensures { Yields result (spec.let_of p (map reading args.now)) }
 {
-    let [head, ..] = kids else {
-        return Err(wrong(p));
-    };
-    match stmt_word(text_of(head)) {
-        Some(word) => worded_stmt(alloc, word, p, kids),
-        None => Err(wrong(p)),
-    }
-}
-
-#[cycle(stmt)]
-fn worded_stmt(alloc: Global, word: StmtWord, p: Place, kids: &[Sx]) -> Result<Stmt, Fail>
-    ensures { Answers result (spec.worded_stmt word p (map reading kids.now)) }
-{
-    match word {
-        StmtWord::Let => let_of(alloc, p, kids),
-        StmtWord::Put => put_of(alloc, p, kids),
-        StmtWord::Move => move_of(alloc, p, kids),
-        StmtWord::If => if_of(alloc, p, kids),
-        StmtWord::For => for_of(alloc, p, kids),
-        StmtWord::Map => map_of(alloc, p, kids),
-        StmtWord::Fold => fold_of(alloc, p, kids),
-    }
-}
-
-fn let_of(alloc: Global, p: Place, kids: &[Sx]) -> Result<Stmt, Fail>
-    ensures { Answers result (spec.let_of p (map reading kids.now)) }
-{
-    let x = name_at(alloc, p, kids, 1)?;
-    let value = expr_at(alloc, p, kids, 2)?;
-    end(kids, 3)?;
+    let x = read_name(alloc, form_at(p, args, 0)?)?;
+    let value = read_expr(alloc, form_at(p, args, 1)?)?;
+    end(args, 2)?;
     Ok(Stmt::Let(x, value))
 }
 
-fn put_of(alloc: Global, p: Place, kids: &[Sx]) -> Result<Stmt, Fail>
-    ensures { Answers result (spec.put_of p (map reading kids.now)) }
+fn put_of(alloc: Global, p: Place, args: &[Sx]) -> Result<Stmt, Misread>
+    ensures { Yields result (spec.put_of p (map reading args.now)) }
 {
-    let a = name_at(alloc, p, kids, 1)?;
-    let index = expr_at(alloc, p, kids, 2)?;
-    let value = expr_at(alloc, p, kids, 3)?;
-    end(kids, 4)?;
+    let a = read_name(alloc, form_at(p, args, 0)?)?;
+    let index = read_expr(alloc, form_at(p, args, 1)?)?;
+    let value = read_expr(alloc, form_at(p, args, 2)?)?;
+    end(args, 3)?;
     Ok(Stmt::Put(a, index, value))
 }
 
-fn move_of(alloc: Global, p: Place, kids: &[Sx]) -> Result<Stmt, Fail>
-    ensures { Answers result (spec.move_of p (map reading kids.now)) }
+fn move_of(alloc: Global, p: Place, args: &[Sx]) -> Result<Stmt, Misread>
+    ensures { Yields result (spec.move_of p (map reading args.now)) }
 {
-    let b = name_at(alloc, p, kids, 1)?;
-    let a = name_at(alloc, p, kids, 2)?;
-    let index = expr_at(alloc, p, kids, 3)?;
-    let value = expr_at(alloc, p, kids, 4)?;
-    end(kids, 5)?;
+    let b = read_name(alloc, form_at(p, args, 0)?)?;
+    let a = read_name(alloc, form_at(p, args, 1)?)?;
+    let index = read_expr(alloc, form_at(p, args, 2)?)?;
+    let value = read_expr(alloc, form_at(p, args, 3)?)?;
+    end(args, 4)?;
     Ok(Stmt::Move(b, a, index, value))
 }
 
-#[cycle(stmt)]
-fn if_of(alloc: Global, p: Place, kids: &[Sx]) -> Result<Stmt, Fail>
-    ensures { Answers result (spec.if_of p (map reading kids.now)) }
+/// The names that a block hands on, from number `i` on, and the facts that are kept.
+fn carried(
+    alloc: Global,
+    p: Place,
+    args: &[Sx],
+    i: usize,
+) -> Result<(List<Name>, List<Le>), Misread>
+    requires { i < 2 ^ 32 }
+    ensures { Yields result (spec.carried i p (map reading args.now)) }
 {
-    let test = expr_at(alloc, p, kids, 1)?;
-    let names = names_at(alloc, p, kids, 2)?;
-    let keep = keep_at(alloc, p, kids, 3)?;
-    let first = block_at(alloc, p, kids, 4)?;
-    let second = block_at(alloc, p, kids, 5)?;
-    end(kids, 6)?;
+    let names = read_names(alloc, form_at(p, args, i)?)?;
+    let keep = read_keep(alloc, form_at(p, args, i + 1)?)?;
+    Ok((names, keep))
+}
+
+/// What stands before the blocks of an if.
+fn choice_of(alloc: Global, p: Place, args: &[Sx]) -> Result<(Expr, List<Name>, List<Le>), Misread>
+    ensures { Yields result (spec.choice_of p (map reading args.now)) }
+{
+    let test = read_expr(alloc, form_at(p, args, 0)?)?;
+    let (names, keep) = carried(alloc, p, args, 1)?;
+    Ok((test, names, keep))
+}
+
+#[cycle(stmt)]
+fn if_of(alloc: Global, p: Place, args: &[Sx]) -> Result<Stmt, Misread>
+    ensures { Yields result (spec.if_of p (map reading args.now)) }
+{
+    let (test, names, keep) = choice_of(alloc, p, args)?;
+    let first = block_at(alloc, p, args, 3)?;
+    let second = block_at(alloc, p, args, 4)?;
+    end(args, 5)?;
     Ok(Stmt::If(test, names, keep, first, second))
 }
 
 /// The name of a loop and its ends.
-fn range_of(alloc: Global, p: Place, kids: &[Sx]) -> Result<(Name, Expr, Expr), Fail>
-    ensures { Answers result (spec.range_of p (map reading kids.now)) }
+fn range_of(alloc: Global, p: Place, args: &[Sx]) -> Result<(Name, Expr, Expr), Misread>
+    ensures { Yields result (spec.range_of p (map reading args.now)) }
 {
-    let x = name_at(alloc, p, kids, 1)?;
-    let low = expr_at(alloc, p, kids, 2)?;
-    let high = expr_at(alloc, p, kids, 3)?;
+    let x = read_name(alloc, form_at(p, args, 0)?)?;
+    let low = read_expr(alloc, form_at(p, args, 1)?)?;
+    let high = read_expr(alloc, form_at(p, args, 2)?)?;
     Ok((x, low, high))
 }
 
 #[cycle(stmt)]
-fn for_of(alloc: Global, p: Place, kids: &[Sx]) -> Result<Stmt, Fail>
-    ensures { Answers result (spec.for_of p (map reading kids.now)) }
+fn for_of(alloc: Global, p: Place, args: &[Sx]) -> Result<Stmt, Misread>
+    ensures { Yields result (spec.for_of p (map reading args.now)) }
 {
-    let (x, low, high) = range_of(alloc, p, kids)?;
-    let names = names_at(alloc, p, kids, 4)?;
-    let keep = keep_at(alloc, p, kids, 5)?;
-    let body = block_at(alloc, p, kids, 6)?;
-    end(kids, 7)?;
+    let (x, low, high) = range_of(alloc, p, args)?;
+    let (names, keep) = carried(alloc, p, args, 3)?;
+    let body = block_at(alloc, p, args, 5)?;
+    end(args, 6)?;
     Ok(Stmt::For(x, low, high, names, keep, body))
 }
 
-fn map_of(alloc: Global, p: Place, kids: &[Sx]) -> Result<Stmt, Fail>
-    ensures { Answers result (spec.map_of p (map reading kids.now)) }
+fn map_of(alloc: Global, p: Place, args: &[Sx]) -> Result<Stmt, Misread>
+    ensures { Yields result (spec.map_of p (map reading args.now)) }
 {
-    let a = name_at(alloc, p, kids, 1)?;
-    let x = element_at(alloc, p, kids, 2)?;
-    let value = expr_at(alloc, p, kids, 3)?;
-    end(kids, 4)?;
+    let a = read_name(alloc, form_at(p, args, 0)?)?;
+    let x = read_element(alloc, form_at(p, args, 1)?)?;
+    let value = read_expr(alloc, form_at(p, args, 2)?)?;
+    end(args, 3)?;
     Ok(Stmt::Map(a, x, value))
 }
 
-fn fold_of(alloc: Global, p: Place, kids: &[Sx]) -> Result<Stmt, Fail>
-    ensures { Answers result (spec.fold_of p (map reading kids.now)) }
+fn fold_of(alloc: Global, p: Place, args: &[Sx]) -> Result<Stmt, Misread>
+    ensures { Yields result (spec.fold_of p (map reading args.now)) }
 {
-    let scalar = name_at(alloc, p, kids, 1)?;
-    let a = name_at(alloc, p, kids, 2)?;
-    let x = element_at(alloc, p, kids, 3)?;
-    let value = expr_at(alloc, p, kids, 4)?;
-    end(kids, 5)?;
+    let scalar = read_name(alloc, form_at(p, args, 0)?)?;
+    let a = read_name(alloc, form_at(p, args, 1)?)?;
+    let x = read_element(alloc, form_at(p, args, 2)?)?;
+    let value = read_expr(alloc, form_at(p, args, 3)?)?;
+    end(args, 4)?;
     Ok(Stmt::Fold(scalar, a, x, value))
 }
 
 #[cycle(stmt)]
-fn read_block(alloc: Global, form: &Sx) -> Result<List<Stmt>, Fail>
-    ensures { Answers result (spec.block (reading form.now)) }
+#[tactic(auto, using(crate::proofs::Nth::size_in))]
+fn each_stmt(alloc: Global, forms: &[Sx]) -> Result<List<Stmt>, Misread>
+    ensures { Yields result (parts.each spec.stmt (map reading forms.now)) }
 {
-    match form {
-        Sx::Atom(p, _) => Err(wrong(*p)),
-        Sx::Kids(p, kids) => block_of(alloc, *p, kids.as_slice()),
-    }
-}
-
-#[cycle(stmt)]
-fn block_of(alloc: Global, p: Place, kids: &[Sx]) -> Result<List<Stmt>, Fail>
-    ensures { Answers result (spec.block_of p (map reading kids.now)) }
-{
-    let [head, forms @ ..] = kids else {
-        return Err(wrong(p));
-    };
-    if !is(text_of(head), b"do") {
-        return Err(wrong(p));
-    }
     let mut stmts = List::new(alloc);
     for form in forms {
         stmts.push(read_stmt(alloc, form)?)?;
@@ -227,13 +159,17 @@ fn block_of(alloc: Global, p: Place, kids: &[Sx]) -> Result<List<Stmt>, Fail>
 }
 
 #[cycle(stmt)]
-#[tactic(auto, using(crate::proofs::Nth::nth_in, crate::proofs::Nth::nth_out))]
-pub fn block_at(alloc: Global, p: Place, kids: &[Sx], i: usize) -> Result<List<Stmt>, Fail>
-    ensures { Answers result (parts.nth i spec.block p (map reading kids.now)) }
+fn block_at(alloc: Global, p: Place, args: &[Sx], i: usize) -> Result<List<Stmt>, Misread>
+    ensures { Yields result (parts.nth i spec.block p (map reading args.now)) }
 {
-    if i < kids.len() {
-        read_block(alloc, &kids[i])
-    } else {
-        Err(missing(p))
-    }
+    read_block(alloc, form_at(p, args, i)?)
+}
+
+/// `(do S*)`
+#[cycle(stmt)]
+pub fn read_block(alloc: Global, form: &Sx) -> Result<List<Stmt>, Misread>
+    ensures { Yields result (spec.block (reading form.now)) }
+{
+    let (p, kids) = kids_of(form)?;
+    each_stmt(alloc, behind(b"do", p, kids)?)
 }

@@ -1,7 +1,7 @@
 -- Sides over names with numbers of their own: their forms have the same numbers.
-use Rattle.std.proofs.Common.{◌≡◌, refl, sym, ◌∙◌, ap, subst, arith, ℕ, ◌+◌, ◌*◌, ◌≤◌, ◌^◌, Bool, true, false, List, [], ◌∷◌, length, Option, Some, Result, Ok, Err, ℤ, pos, ◌*ℤ◌, nat_eq, nat_le, if◌then◌else◌}
+use Rattle.std.proofs.Common.{◌≡◌, refl, sym, ◌∙◌, ap, subst, arith, ℕ, ◌+◌, ◌*◌, ◌≤◌, ◌^◌, Bool, true, false, List, [], ◌∷◌, length, Result, Ok, Err, ℤ, pos, ◌*ℤ◌, nat_eq, nat_le, if◌then◌else◌}
 use Rattle.std.proofs.Math.Nat.{mul-add}
-use Rattle.std.proofs.lemmas.Bool.{le-leb, eqb-true, leb-true}
+use Rattle.std.proofs.lemmas.Bool.{eqb-true, leb-true}
 use Rattle.std.proofs.lemmas.Int.{ints}
 use Rattle.std.proofs.lemmas.Slice.Eq.{bytes_eq-Decides as bytes_decides}
 use Rattle.rup_base.specs.declared.refusal.TypeWhy.{TypeWhy}
@@ -14,7 +14,7 @@ use Rattle.model_syntax.specs.declared.scope.Linear.{Linear}
 use Rattle.model_syntax.specs.Linear.{number, few, term, more, added, scaled, form, times, plus}
 use Rattle.model_syntax.specs.Answer.{◌>>=◌}
 use Rattle.model_syntax.specs.Names.{Name, same}
-use Rattle.side_certs.proofs.laws.Coefficients.{coefficient_merge, coefficient_times, Below, below_merge, below_times, keeps_limits}
+use Rattle.side_certs.proofs.laws.Coefficients.{coefficient_merge, coefficient_times, Below, below_merge, below_times}
 use Rattle.sym_heap.proofs.Declared.{Answered, answered}
 
 pub number_is : (n k : ℕ) → number n ≡ Ok k → (n ≡ k) × (n ≤ 2 ^ 40)

@@ -1,5 +1,5 @@
 -- The context at the start says of names what the scope of the parameters does.
-use Rattle.std.proofs.Common.{◌≡◌, ◌≢◌, refl, sym, ◌∙◌, ap, subst, arith, ℕ, zero, suc, ◌+◌, ◌<◌, ◌≤◌, ◌⊎◌, inl, inr, Bool, true, false, List, [], ◌∷◌, ◌++◌, length, map, Option, Some, None, Ok, pos, slice_get, length-append, append_assoc, if◌then◌else◌}
+use Rattle.std.proofs.Common.{◌≡◌, ◌≢◌, refl, sym, ◌∙◌, ap, subst, arith, ℕ, zero, suc, ◌+◌, ◌≤◌, ◌⊎◌, inl, inr, Bool, true, false, List, [], ◌∷◌, ◌++◌, length, map, Option, Some, None, Ok, pos, slice_get, append_assoc}
 use Rattle.std.specs.Prelude.{is_some}
 use Rattle.std.specs.List.{find}
 use Rattle.std.proofs.lemmas.List.{append-nil}
@@ -11,7 +11,6 @@ use Rattle.model_syntax.specs.declared.program.Len.{Len}
 use Rattle.model_syntax.specs.declared.program.Len.TheVariants.{Fixed, Named}
 use Rattle.model_syntax.specs.declared.program.Param.{Param}
 use Rattle.model_syntax.specs.declared.program.Param.TheVariants as param
-use Rattle.model_syntax.specs.declared.program.Model.{Model}
 use Rattle.model_syntax.specs.declared.scope.NameType.{NameType}
 use Rattle.model_syntax.specs.declared.scope.NameType.TheVariants.{Scalar as One, Array as Many}
 use Rattle.model_syntax.specs.Answer.{◌>>=◌}
@@ -21,7 +20,7 @@ use Rattle.model_syntax.specs.Types as types
 use Rattle.sym_heap.specs.declared.parts.Held.{Held}
 use Rattle.sym_heap.specs.declared.parts.Clause.{Clause}
 use Rattle.sym_heap.specs.Context.{Context, held, is_scalar, is_clause}
-use Rattle.sym_heap.specs.Scoped.{entry_names, element_size, IsLength, IsEntryLength, IsArrayOf, IsScoped, StartIsScoped}
+use Rattle.sym_heap.specs.Scoped.{entry_names, element_size, IsLength, IsEntryLength, IsArrayOf, StartIsScoped}
 use Rattle.sym_heap.specs.Start.{empty, next_local, with_argument, clause, with_pointer, with_array, with_param, with_params, registers}
 use Rattle.sym_heap.proofs.Arriving.{at_end}
 use Rattle.sym_heap.proofs.Declared.{Answered, answered, declared, Declared, declared_parts, few_registers}

@@ -1,5 +1,5 @@
 use Rattle.std.proofs.Common.{sym, ◌∙◌}
-use Rattle.equations.proofs.Powers.{searched_whole, searched_here, searched_past, searched_last}
+use Rattle.equations.specs.laws.Powers.{searched_whole, searched_here, searched_past, searched_last}
 use Rattle.equations.proofs.sides.exponent.Goals as goal
 
 pub loop-k-init : goal.loop-k-init

@@ -1,6 +1,6 @@
-use Rattle.std.proofs.Common.{◌≡◌, ◌≤◌}
+use Rattle.std.proofs.Common.{◌≡◌}
 use Rattle.equations.specs.Equations.{exponent}
-use Rattle.equations.proofs.Powers.{searched}
+use Rattle.equations.specs.laws.Powers.{searched}
 use Rattle.equations.proofs.sides.exponent.Given as goal
 
 abbrev pub invariant-loop-k : goal.invariant-loop-k

@@ -1,6 +1,6 @@
-use Rattle.std.proofs.Common.{◌≡◌, ℕ, ◌≤◌, ◌^◌, Option, Some, None, true, refl, sym, ◌∙◌, arith}
+use Rattle.std.proofs.Common.{◌≡◌, ℕ, ◌≤◌, ◌^◌, Option, Some, None, refl, sym, ◌∙◌, arith}
 use Rattle.std.specs.Prelude.{IfSome}
-use Rattle.side_certs.specs.LinearForm.{LinearForm, is_within, within}
+use Rattle.side_certs.specs.LinearForm.{LinearForm, within}
 use Rattle.sym_heap.specs.Sides as spec
 use Rattle.sym_heap.proofs.Narrow.{small_constant}
 use Rattle.sym_heap.proofs.sides.requirement.Goals as goal

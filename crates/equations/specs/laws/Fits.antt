@@ -4,7 +4,7 @@ use Rattle.std.specs.Option.{option_and_then, option_map}
 use Rattle.std.proofs.lemmas.Bool.{eqb-true}
 use Rattle.std.proofs.lemmas.Option.{none-some, same_Some}
 use Rattle.equations.specs.Equations.{any, at_any, among, sides, same_op, literal, at_literal, is_literal, is, exponent, power, byte, at_byte, word, at_word}
-use Rattle.equations.proofs.Powers.{exponent_is}
+use Rattle.equations.specs.laws.Powers.{exponent_is}
 use Rattle.model_syntax.specs.declared.expr.Expr.{Expr, Expr-F, out-Expr, roll-Expr, roll-out-Expr}
 use Rattle.model_syntax.specs.declared.expr.Expr.TheOpen as e
 use Rattle.model_syntax.specs.declared.expr.Expr.TheVariants as v
@@ -38,7 +38,8 @@ pub any_is : (next : Op → Expr → Expr → Option Expr) (x y : Expr) → any 
     → (o : Op) × (p : Expr) × (q : Expr) × ((x ≡ Bin o p q) × (next o p q ≡ Some y))
 any_is next x y fits = by (out-Expr x) refl fits
   where
-    by : (l : Expr-F Expr) → out-Expr x ≡ l → at_any next l ≡ Some y → (o : Op) × (p : Expr) × (q : Expr) × ((x ≡ Bin o p q) × (next o p q ≡ Some y))
+    by : (l : Expr-F Expr) → out-Expr x ≡ l → at_any next l ≡ Some y
+        → (o : Op) × (p : Expr) × (q : Expr) × ((x ≡ Bin o p q) × (next o p q ≡ Some y))
     by (e.Bin o p q) at some = (o, p, q, (opened x (e.Bin o p q) at ∙ v.rolls-Bin o p q, some))
     by l at some = absurd (none-some y some)
 
@@ -79,8 +80,8 @@ pub literal_is : (n : ℕ) (x : Expr) → is_literal n x ≡ true → x ≡ Lit 
 literal_is n x fits = by (literal x) refl fits
   where
     by : (o : Option ℕ) → literal x ≡ o → is n o ≡ true → x ≡ Lit n
-    by None at no = absurd (cc)
-    by (Some k) at yes = literal_of x k at ∙ ap Lit (eqb-true k n yes)
+    by None at wrong = absurd (cc)
+    by (Some k) at same = literal_of x k at ∙ ap Lit (eqb-true k n same)
 
 -- what is made of a number, where there is one
 pub mapped : (f : ℕ → Expr) (o : Option ℕ) (y : Expr) → option_map f o ≡ Some y → (k : ℕ) × ((o ≡ Some k) × (f k ≡ y))
@@ -90,6 +91,7 @@ mapped f (Some k) y some = (k, (refl, same_Some (f k) y some))
 pub power_is : (x : Expr) (k : ℕ) → power x ≡ Some k → (n : ℕ) × ((x ≡ Lit n) × ((2 ^ k ≡ n) × (k < 32)))
 power_is x k fits = by (literal x) refl fits
   where
-    by : (o : Option ℕ) → literal x ≡ o → option_and_then exponent o ≡ Some k → (n : ℕ) × ((x ≡ Lit n) × ((2 ^ k ≡ n) × (k < 32)))
-    by None at no = absurd (none-some k no)
+    by : (o : Option ℕ) → literal x ≡ o → option_and_then exponent o ≡ Some k
+        → (n : ℕ) × ((x ≡ Lit n) × ((2 ^ k ≡ n) × (k < 32)))
+    by None at wrong = absurd (none-some k wrong)
     by (Some n) at some = (n, (literal_of x n at, exponent_is n k some))

@@ -1,14 +1,14 @@
 -- What expressions of words are made of: their types, values, tables, and what holds of all that is in them.
-use Rattle.std.proofs.Common.{◌≡◌, refl, sym, ◌∙◌, ap, arith, ℕ, ◌+◌, ◌%◌, ◌≤◌, Bool, true, ◌&&◌, Ok}
+use Rattle.std.proofs.Common.{◌≡◌, refl, sym, ◌∙◌, ap, ℕ, ◌+◌, ◌%◌, Bool, true, ◌&&◌, Ok}
 use Rattle.model_syntax.specs.Answer.{◌>>=◌}
 use Rattle.model_syntax.specs.Environment.{Env}
 use Rattle.model_syntax.specs.ExprType.{Typing, type_of, type_step, wanted, both_wanted, no_word}
-use Rattle.model_syntax.specs.Formed.{expr_formed, expr_formed_step}
+use Rattle.model_syntax.specs.Formed.{expr_formed_step}
 use Rattle.model_syntax.specs.Kinds.{is_word}
 use Rattle.model_syntax.specs.Limits.{expr_tables, expr_tables_step}
 use Rattle.model_syntax.specs.Operation.{apply}
 use Rattle.model_syntax.specs.Scope.{Scope}
-use Rattle.model_syntax.specs.Spelling.{expr_spellable, expr_spellable_step}
+use Rattle.model_syntax.specs.Spelling.{expr_spellable_step}
 use Rattle.model_syntax.specs.Value.{eval, eval_step}
 use Rattle.model_syntax.specs.declared.expr.Expr.{Expr, Expr-F, fold-Expr, fold-roll-Expr}
 use Rattle.model_syntax.specs.declared.expr.Expr.TheOpen as e
@@ -59,7 +59,8 @@ lit_typed n c = ap (λ (g : Scope → Typing). g c) (at_lit (Scope → Typing) t
 pub bin_typed : (o : Op) (p q : Expr) (c : Scope) → IsWord p c → IsWord q c → IsWord (Bin o p q) c
 bin_typed o p q c one two = type_bin o p q c ∙ rw (one, two) refl
 
-pub bin_parts : (o : Op) (p q : Expr) (c : Scope) (t : Scalar) → type_of (Bin o p q) c ≡ Ok t → IsWord p c × (IsWord q c × (t ≡ Word))
+pub bin_parts : (o : Op) (p q : Expr) (c : Scope) (t : Scalar) → type_of (Bin o p q) c ≡ Ok t
+    → IsWord p c × (IsWord q c × (t ≡ Word))
 bin_parts o p q c t is = both_are Word (type_of p c) (type_of q c) t (sym (type_bin o p q c) ∙ is)
 
 pub byte_typed : (p : Expr) (c : Scope) → IsWord p c → type_of (ToByte p) c ≡ Ok Byte
@@ -70,7 +71,8 @@ byte_parts p c t is =
     let found = first_answered (wanted Word (type_of p c)) _ t (sym (type_byte p c) ∙ is) in
     ((wanted_is Word (type_of p c) found.0 found.1.0).0, sym (answer_is Byte t found.1.1))
 
-pub word_parts : (p : Expr) (c : Scope) (t : Scalar) → type_of (ToWord p) c ≡ Ok t → (u : Scalar) × ((type_of p c ≡ Ok u) × (t ≡ Word))
+pub word_parts : (p : Expr) (c : Scope) (t : Scalar) → type_of (ToWord p) c ≡ Ok t
+    → (u : Scalar) × ((type_of p c ≡ Ok u) × (t ≡ Word))
 word_parts p c t is =
     let found = first_answered (no_word (type_of p c)) _ t (sym (type_word p c) ∙ is) in
     let inner = first_answered (type_of p c) _ found.0 found.1.0 in
@@ -123,7 +125,8 @@ module _ (step : Expr-F Bool → Bool) (w : IsWhole step) where
   Holds x = fold-Expr Bool step x ≡ true
 
   pub parts : (o : Op) (p q : Expr) → Holds (Bin o p q) → Holds p × Holds q
-  parts o p q is = and_parts (fold-Expr Bool step p) (fold-Expr Bool step q) (sym (w.bin o _ _) ∙ sym (at_bin Bool step o p q) ∙ is)
+  parts o p q is =
+      and_parts (fold-Expr Bool step p) (fold-Expr Bool step q) (sym (w.bin o _ _) ∙ sym (at_bin Bool step o p q) ∙ is)
 
   pub joined : (o : Op) (p q : Expr) → Holds p → Holds q → Holds (Bin o p q)
   joined o p q one two = at_bin Bool step o p q ∙ w.bin o _ _ ∙ and_both (fold-Expr Bool step p) (fold-Expr Bool step q) one two

@@ -53,7 +53,8 @@ found n a zero k is = absurd (none-some k is)
 found n a (suc m) k is = by (nat_eq (2 ^ a) n) refl is (found n (a + 1) m k)
   where
     by : (b : Bool) → nat_eq (2 ^ a) n ≡ b → cond b (Some a) (find (λ j. nat_eq (2 ^ j) n) (range_with_len (a + 1) m)) ≡ Some k
-        → (find (λ j. nat_eq (2 ^ j) n) (range_with_len (a + 1) m) ≡ Some k → (2 ^ k ≡ n) × (k < a + 1 + m)) → (2 ^ k ≡ n) × (k < a + suc m)
+        → (find (λ j. nat_eq (2 ^ j) n) (range_with_len (a + 1) m) ≡ Some k → (2 ^ k ≡ n) × (k < a + 1 + m))
+        → (2 ^ k ≡ n) × (k < a + suc m)
     by true at one later =
         let same = same_Some a k one in
         (subst (λ z. 2 ^ z ≡ n) same (eqb-true (2 ^ a) n at), omega (arith, same))

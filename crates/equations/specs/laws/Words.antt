@@ -6,7 +6,7 @@ use Rattle.std.proofs.lemmas.Nat.{and_comm, or_comm, xor_comm, and_mask, mul-mod
 use Rattle.std.proofs.Math.Nat.{add_comm, mul_comm, mul_assoc}
 use Rattle.std.proofs.Math.Pow.{pow_mono}
 use Rattle.model_syntax.specs.Kinds.{is_word}
-use Rattle.model_syntax.specs.Operation.{apply, quotient, remainder}
+use Rattle.model_syntax.specs.Operation.{apply, quotient}
 use Rattle.model_syntax.specs.declared.expr.Op.{Op}
 use Rattle.model_syntax.specs.declared.expr.Op.TheVariants as op
 use Rattle.equations.specs.Equations.{is_neutral}
@@ -69,8 +69,8 @@ quotient_shifts a k small =
     ap (λ j. a / 2 ^ j) (whole_shift k small)
     ∙ ap (λ (b : Bool). if b then 4294967295 else a / 2 ^ k) (sym (no_zero (2 ^ k) (power_positive k)))
 
-pub remainder_masks : (a k : ℕ) → apply op.And a (2 ^ k - 1) ≡ apply op.Remu a (2 ^ k)
-remainder_masks a k =
+pub remainder_masks : (a k : ℕ) → k < 32 → apply op.And a (2 ^ k - 1) ≡ apply op.Remu a (2 ^ k)
+remainder_masks a k small =
     and_mask a k
     ∙ ap (λ (b : Bool). if b then a else a % 2 ^ k) (sym (no_zero (2 ^ k) (power_positive k)))
 

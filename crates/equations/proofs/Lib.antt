@@ -1,5 +1,0 @@
-pub mod Nodes
-pub mod Fits
-pub mod Words
-pub mod Powers
-pub mod Laws

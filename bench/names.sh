@@ -1,22 +1,24 @@
 #!/usr/bin/env bash
 # Times how long `rup eval` takes to refuse a model whose `if` lists 200,000 names, of which none but the last stands
-# again, and the same of a `for`. Each has to be refused within a second. Takes another number of names as its word.
+# again, and the same of a `for`. Each has to be refused within a second. Takes another number of names, up to 210,000, as its word.
 set -euo pipefail
 top="$(cd "$(dirname "$0")/.." && pwd)"
 rup="$top/crates/rup/out/rup"
-if [ ! -x "$rup" ]; then
-  (cd "$top/crates/rup" && rt run >/dev/null 2>&1) || true
-fi
-[ -x "$rup" ] || { echo "rup was not built; 'rt check' in crates/rup says why" >&2; exit 1; }
+"$top/examples/build.sh"
 
 count="${1:-200000}"
 folder="$(mktemp -d)"
 trap 'rm -rf "$folder"' EXIT
 
-# the names, and the first of them once more
-names="$(seq -f 'n%.0f' 1 "$count" | tr '\n' ' ')n1"
+# different names of three bytes, so that a model file has room for them all, and the first of them once more
+names="$(awk -v n="$count" 'BEGIN {
+  first = "abcdefghijklmnopqrstuvwxyzABCDEFGHIJKLMNOPQRSTUVWXYZ_"; other = first "0123456789"
+  for (k = 0; k < n; k++)
+    printf "%s%s%s ", substr(first, int(k / 3969) + 1, 1), substr(other, int(k / 63) % 63 + 1, 1), substr(other, k % 63 + 1, 1)
+  print "aaa"
+}')"
 write() {
-  printf '(model m (params (word a)) (require) (do %s) (ret a))\n' "$1"
+  printf '(model m (params (a word)) (require) (do %s) (ret a))\n' "$1"
 }
 write "(if (eq a 0) ($names) (keep) (do) (do))" >"$folder/if.model"
 # in a `for` the names have to be in scope, so that the first is refused already

@@ -10,8 +10,10 @@ fn a_model_is_made(rt: HostRuntime) -> Result<(), Fail> {
     let body = model.body.as_slice();
     assert_eq!(rt; body.len(), 10);
     // (let x2 (add x4 x6)) and (let x4 (xor x1 (mul x0 31)))
-    let sum = matches!(&body[8], Stmt::Let(name, Expr::Bin(Op::Add, _, _)) if name.text() == b"x2");
-    let mix = matches!(&body[9], Stmt::Let(name, Expr::Bin(Op::Xor, _, _)) if name.text() == b"x4");
+    let sum =
+        matches!(&body[8], Stmt::Let(name, Expr::Bin(Op::Add, _, _)) if name.text() == b"x2".as_slice());
+    let mix =
+        matches!(&body[9], Stmt::Let(name, Expr::Bin(Op::Xor, _, _)) if name.text() == b"x4".as_slice());
     assert_eq!(rt; (sum, mix), (true, true));
     Ok(())
 }
@@ -23,6 +25,6 @@ fn arguments_are_made(rt: HostRuntime) -> Result<(), Fail> {
         return Err(Fail::from("a word and bytes"));
     };
     assert_eq!(rt; (*word, bytes.len()), (255, 64));
-    assert_eq!(rt; &bytes.as_slice()[..3], &[255, 6, 13]);
+    assert_eq!(rt; &bytes.as_slice()[..3], [255, 6, 13].as_slice());
     Ok(())
 }

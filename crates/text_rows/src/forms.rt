@@ -23,7 +23,7 @@ pub fn forms(alloc: Global, text: &str) -> Result<String, Fault> {
     };
     let mut spelled = Text::new(alloc);
     for form in forms.as_slice() {
-        put_place(alloc, &mut spelled, place_of(form))?;
+        put_place(&mut spelled, place_of(form))?;
         print_form(&mut spelled, form)?;
         spelled.push(b';')?;
     }
@@ -37,10 +37,10 @@ fn place_of(form: &Sx) -> Place {
     }
 }
 
-fn put_place(alloc: Global, text: &mut Text, place: Place) -> Result<(), Fault> {
-    text.push_number(alloc, u128::from(place.start))?;
+fn put_place(text: &mut Text, place: Place) -> Result<(), Fault> {
+    text.push_number(u128::from(place.start))?;
     text.push(b'-')?;
-    text.push_number(alloc, u128::from(place.end))?;
+    text.push_number(u128::from(place.end))?;
     text.push(b' ')?;
     Ok(())
 }

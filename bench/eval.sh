@@ -17,7 +17,8 @@ model() {
   printf '(model m (params (s (bytes n))) (require) (do %s) (ret %s))\n' "$2" "$3" >"$folder/$1.model"
 }
 model put '(for i 0 n (s) (keep) (do (put s i (byte 7))))' '(s in s)'
-model turn '(for i 0 n (s) (keep) (do (let t (get s i)) (if (eq (word t) 97) (s) (keep) (do (put s i (byte 7))) (do))))' '(s in s)'
+model turn '(for i 0 n (s) (keep) (do (let t (get s i))
+  (if (eq (word t) 97) (s) (keep) (do (put s i (byte 7))) (do))))' '(s in s)'
 model fold '(let h 2166136261) (fold h s (x) (mul (xor h (word x)) 16777619))' 'h'
 
 # the seconds that an evaluation over so many bytes takes
@@ -30,14 +31,20 @@ seconds() {
   awk -v a="$start" -v b="$end" 'BEGIN { printf "%.3f\n", b - a }'
 }
 
+refuse() {
+  echo "$1" >&2
+  exit 1
+}
+
 for name in put turn fold; do
   before=0
   for size in 100000 200000 400000 800000 1600000; do
     now="$(seconds "$name" "$size")"
-    awk -v w="$name" -v n="$size" -v a="$before" -v b="$now" \
-      'BEGIN { printf "%-5s %7d bytes in %.2f s\n", w, n, b; exit a >= 0.1 && b > 2.3 * a }' || { echo "$name grows too fast" >&2; exit 1; }
+    printf '%-5s %7d bytes in %.2f s\n' "$name" "$size" "$now"
+    awk -v a="$before" -v b="$now" 'BEGIN { exit a >= 0.1 && b > 2.3 * a }' || refuse "$name grows too fast"
     before="$now"
   done
 done
 now="$(seconds put 1000000)"
-awk -v b="$now" 'BEGIN { printf "put   1000000 bytes in %.2f s\n", b; exit b > 1 }' || { echo "put takes too long" >&2; exit 1; }
+printf 'put   1000000 bytes in %.2f s\n' "$now"
+awk -v b="$now" 'BEGIN { exit b > 1 }' || refuse 'put takes too long'

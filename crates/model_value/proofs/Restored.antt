@@ -149,7 +149,7 @@ set_length [] i a = refl
 set_length (x ∷ xs) zero a = refl
 set_length (x ∷ xs) (suc i) a = ap suc (set_length xs i a)
 
-front_of : {A : Type 0} (xs : List A) (i : ℕ) (d : A) → i < length xs → drop i xs ≡ get_or xs i d ∷ drop (suc i) xs
+pub front_of : {A : Type 0} (xs : List A) (i : ℕ) (d : A) → i < length xs → drop i xs ≡ get_or xs i d ∷ drop (suc i) xs
 front_of [] i d h = absurd (omega arith)
 front_of (x ∷ xs) zero d h = refl
 front_of (x ∷ xs) (suc i) d h = front_of xs i d (omega arith)

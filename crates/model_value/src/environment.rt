@@ -53,8 +53,19 @@ fn word(n: usize) -> u32
     if n < 0xffff_ffff { n as u32 } else { u32::MAX }
 }
 
+/// The number of elements of an array, whatever it is.
+pub fn count(value: Option<&Arg>) -> usize
+    ensures { result ≡ length (spec.elements (option_copied value.entry)) }
+{
+    match value {
+        Some(Arg::Bytes(bytes)) => bytes.len(),
+        Some(Arg::Words(words)) => words.len(),
+        _ => 0,
+    }
+}
+
 /// The element of an array, 0 outside it.
-pub fn element(value: Option<&Arg>, i: u32) -> u32
+pub fn element(value: Option<&Arg>, i: usize) -> u32
     ensures { result ≡ get_or (spec.elements (option_copied value.entry)) i 0 }
 {
     match value {
@@ -64,20 +75,20 @@ pub fn element(value: Option<&Arg>, i: u32) -> u32
     }
 }
 
-fn byte_at(bytes: &[u8], i: u32) -> u32
+fn byte_at(bytes: &[u8], i: usize) -> u32
     ensures { result ≡ get_or bytes.now i 0 }
 {
-    match bytes.get(i as usize) {
+    match bytes.get(i) {
         Some(byte) => u32::from(*byte),
         None => 0,
     }
 }
 
 /// The word of a list at a place, 0 outside it.
-pub fn word_at(words: &[u32], i: u32) -> u32
+pub fn word_at(words: &[u32], i: usize) -> u32
     ensures { result ≡ get_or words.now i 0 }
 {
-    match words.get(i as usize) {
+    match words.get(i) {
         Some(word) => *word,
         None => 0,
     }

@@ -1,12 +1,13 @@
 //! What statements do to an environment.
 ghost use Rattle.std.specs.Prelude.{◌≡◌, map, fold, IfOk};
-ghost use Rattle.model_syntax.specs.Environment.{carry};
+ghost use Rattle.std.specs.Option.{option_copied};
+ghost use Rattle.model_syntax.specs.Environment.{carry, elements};
 ghost use Rattle.model_syntax.specs.Value as spec;
 
 use crate::blocks::{all_aside, all_bound, restored};
 use crate::environment::{
-    Environment, carry, copy_environment, copy_value, elements, low_bytes, number, put,
-    put_element, value_of, with_element,
+    Environment, carry, copy_environment, copy_value, count, element, elements, low_bytes, number,
+    put, put_element, value_of, with_element,
 };
 use crate::evaluation::eval;
 use model_syntax::{Expr, Stmt};
@@ -209,8 +210,7 @@ fn run_fold(
 {
     let inner = copy_environment(alloc, env.as_slice())?;
     let start = number(value_of(env.as_slice(), t));
-    let elements = elements(alloc, value_of(env.as_slice(), a))?;
-    let end = folded(alloc, inner, t, x, e, start, elements.as_slice())?;
+    let end = folded(alloc, inner, t, x, e, start, value_of(env.as_slice(), a))?;
     put(alloc, env, t, Arg::Word(end))
 }
 
@@ -222,15 +222,15 @@ fn folded(
     x: &Name,
     e: &Expr,
     start: u32,
-    elements: &[u32],
+    array: Option<&Arg>,
 ) -> Result<u32, NoMemory>
-    ensures { IfOk result (λ end. end ≡ fold (spec.fold_turn t.now x.now e.now env) start elements.now) }
+    ensures { IfOk result (λ end. end ≡ fold (spec.fold_turn t.now x.now e.now env) start (elements (option_copied array.entry))) }
 {
     let mut inner = env;
     let mut so_far = start;
-    for element in elements {
+    for i in 0..count(array) {
         inner = put(alloc, inner, t, Arg::Word(so_far))?;
-        inner = put(alloc, inner, x, Arg::Word(*element))?;
+        inner = put(alloc, inner, x, Arg::Word(element(array, i)))?;
         so_far = eval(e, inner.as_slice());
     }
     Ok(so_far)

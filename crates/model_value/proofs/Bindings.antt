@@ -23,6 +23,12 @@ same_is x y = (bytes_decides x y).0
 pub same_self : (x : Name) → same x x ≡ true
 same_self x = (bytes_decides x x).1 refl
 
+-- the last element at a place counts
+pub set_again : {A : Type 0} (xs : List A) (i : ℕ) (a b : A) → set (set xs i a) i b ≡ set xs i b
+set_again [] i a b = refl
+set_again (x ∷ xs) zero a b = refl
+set_again (x ∷ xs) (suc i) a b = ap (λ l. x ∷ l) (set_again xs i a b)
+
 -- a name that is bound first takes the value there
 pub put_here : (x : Name) (v : Arg) (b : Binding) (bs : Env) → same b.name x ≡ true → put x v (b ∷ bs) ≡ bound x v ∷ bs
 put_here x v b bs here = rw here refl
@@ -46,7 +52,7 @@ both_here : (b x y : Name) → same b x ≡ true → same b y ≡ true → same 
 both_here b x y at_x at_y = let one : b ≡ x = same_is b x at_x in let two : b ≡ y = same_is b y at_y in (bytes_decides x y).1 (sym one ∙ two)
 
 -- a name that is the first one's, and one that is not
-not_both : (b x y : Name) (is : Bool) → same x y ≡ is → same b x ≡ true → same b y ≡ false → same x y ≡ false
+pub not_both : (b x y : Name) (is : Bool) → same x y ≡ is → same b x ≡ true → same b y ≡ false → same x y ≡ false
 not_both b x y false is at_x at_y = is
 not_both b x y true is at_x at_y =
     let one : b ≡ x = same_is b x at_x in
@@ -55,7 +61,7 @@ not_both b x y true is at_x at_y =
     let false_is_true : false ≡ true = sym at_y ∙ bad in
     absurd (cc)
 
-flips : (x y : Name) (is : Bool) → same y x ≡ is → same x y ≡ false → same y x ≡ false
+pub flips : (x y : Name) (is : Bool) → same y x ≡ is → same x y ≡ false → same y x ≡ false
 flips x y false is apart = is
 flips x y true is apart =
     let bad : same x y ≡ true = (bytes_decides x y).1 (sym (same_is y x is)) in

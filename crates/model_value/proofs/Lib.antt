@@ -1,4 +1,9 @@
 pub mod Bindings
+pub mod Places
+pub mod Overwrites
+pub mod Restored
+pub mod Changes
+pub mod Carried
 pub mod Turns
 pub mod Formed
 pub mod Sides

@@ -1,14 +1,15 @@
 //! The values of names.
-ghost use Rattle.std.specs.Prelude.{◌≡◌, ◌<◌, ◌%◌, min, length, map, IfOk, IfSome};
+ghost use Rattle.std.specs.Prelude.{◌≡◌, ◌<◌, ◌%◌, min, length, map, Some, IfOk, IfSome};
 ghost use Rattle.std.specs.Option.{option_copied};
 ghost use Rattle.std.proofs.Math.ListN.{get_or, set};
 ghost use Rattle.rup_base.specs.declared.arg.Arg.{Arg};
 ghost use Rattle.model_syntax.specs.Environment as spec;
-ghost use Rattle.model_value.specs.Places.{put_at};
+ghost use Rattle.model_value.specs.Places.{put_at, value_at};
 
 use model_syntax::Binding;
 use rup_base::{Arg, List, Name, NoMemory, Text};
 use std::alloc::Global;
+use std::mem;
 
 /// The names that have a value. The first binding of a name counts.
 pub type Environment = List<Binding>;
@@ -52,8 +53,19 @@ fn word(n: usize) -> u32
     if n < 0xffff_ffff { n as u32 } else { u32::MAX }
 }
 
+/// The number of elements of an array, whatever it is.
+pub fn count(value: Option<&Arg>) -> usize
+    ensures { result ≡ length (spec.elements (option_copied value.entry)) }
+{
+    match value {
+        Some(Arg::Bytes(bytes)) => bytes.len(),
+        Some(Arg::Words(words)) => words.len(),
+        _ => 0,
+    }
+}
+
 /// The element of an array, 0 outside it.
-pub fn element(value: Option<&Arg>, i: u32) -> u32
+pub fn element(value: Option<&Arg>, i: usize) -> u32
     ensures { result ≡ get_or (spec.elements (option_copied value.entry)) i 0 }
 {
     match value {
@@ -63,20 +75,20 @@ pub fn element(value: Option<&Arg>, i: u32) -> u32
     }
 }
 
-fn byte_at(bytes: &[u8], i: u32) -> u32
+fn byte_at(bytes: &[u8], i: usize) -> u32
     ensures { result ≡ get_or bytes.now i 0 }
 {
-    match bytes.get(i as usize) {
+    match bytes.get(i) {
         Some(byte) => u32::from(*byte),
         None => 0,
     }
 }
 
 /// The word of a list at a place, 0 outside it.
-pub fn word_at(words: &[u32], i: u32) -> u32
+pub fn word_at(words: &[u32], i: usize) -> u32
     ensures { result ≡ get_or words.now i 0 }
 {
-    match words.get(i as usize) {
+    match words.get(i) {
         Some(word) => *word,
         None => 0,
     }
@@ -119,42 +131,36 @@ pub fn low_bytes(alloc: Global, words: &[u32]) -> Result<Text, NoMemory>
 }
 
 /// An array with an element put.
-pub fn with_element(
-    alloc: Global,
-    value: Option<&Arg>,
-    i: u32,
-    n: u32,
-) -> Result<Option<Arg>, NoMemory>
-    ensures { IfOk result (λ changed. changed ≡ spec.with_element i n (option_copied value.entry)) }
+pub fn with_element(value: Arg, i: u32, n: u32) -> Arg
+    ensures { Some result ≡ spec.with_element i n (Some value) }
 {
     match value {
-        None => Ok(None),
-        Some(Arg::Word(word)) => Ok(Some(Arg::Word(*word))),
-        Some(Arg::Bytes(bytes)) => Ok(Some(Arg::Bytes(bytes_with(alloc, bytes, i, n)?))),
-        Some(Arg::Words(words)) => Ok(Some(Arg::Words(words_with(alloc, words, i, n)?))),
+        Arg::Word(word) => Arg::Word(word),
+        Arg::Bytes(bytes) => Arg::Bytes(bytes_with(bytes, i, n)),
+        Arg::Words(words) => Arg::Words(words_with(words, i, n)),
     }
 }
 
-fn bytes_with(alloc: Global, bytes: &Text, i: u32, n: u32) -> Result<Text, NoMemory>
-    ensures { IfOk result (λ changed. changed ≡ set bytes.now i (n % 256)) }
+fn bytes_with(bytes: Text, i: u32, n: u32) -> Text
+    ensures { result ≡ set bytes i (n % 256) }
 {
-    let mut changed = Vec::from_slice(alloc, bytes.as_slice())?;
+    let mut changed = bytes.into_vec();
     let i = i as usize;
     if i < changed.len() {
         changed[i] = (n & 0xff) as u8;
     }
-    Ok(Text::from_vec(changed))
+    Text::from_vec(changed)
 }
 
-fn words_with(alloc: Global, words: &List<u32>, i: u32, n: u32) -> Result<List<u32>, NoMemory>
-    ensures { IfOk result (λ changed. changed ≡ set words.now i n) }
+fn words_with(words: List<u32>, i: u32, n: u32) -> List<u32>
+    ensures { result ≡ set words i n }
 {
-    let mut changed = Vec::from_slice(alloc, words.as_slice())?;
+    let mut changed = words.into_vec();
     let i = i as usize;
     if i < changed.len() {
         changed[i] = n;
     }
-    Ok(List::from_vec(changed))
+    List::from_vec(changed)
 }
 
 pub fn copy_value(alloc: Global, value: &Arg) -> Result<Arg, NoMemory>
@@ -199,6 +205,7 @@ pub fn put(alloc: Global, env: Environment, x: &Name, value: Arg) -> Result<Envi
 /// Where a name is bound.
 fn place_of(env: &[Binding], x: &Name) -> Option<usize>
     ensures inside { IfSome result (λ i. i < length env.now) }
+    ensures held { spec.value_of env.now x.now ≡ value_at result env.now }
     ensures bound { (value : Arg) → spec.put x.now value env.now ≡ put_at result x.now value env.now }
 {
     for i in 0..env.len() {
@@ -209,19 +216,26 @@ fn place_of(env: &[Binding], x: &Name) -> Option<usize>
     None
 }
 
-/// The same for a value that may be missing.
-pub fn put_some(
+/// The environment in which an array has an element put, where it stands.
+
+pub fn put_element(
     alloc: Global,
     env: Environment,
-    x: &Name,
-    value: Option<Arg>,
+    a: &Name,
+    i: u32,
+    n: u32,
 ) -> Result<Environment, NoMemory>
-    ensures { IfOk result (λ after. after ≡ spec.put_some x.now value env) }
+    ensures { IfOk result (λ after. after ≡ spec.put_some a.now (spec.with_element i n (spec.value_of env a.now)) env) }
 {
-    match value {
-        Some(value) => put(alloc, env, x, value),
-        None => Ok(env),
-    }
+    let Some(place) = place_of(env.as_slice(), a) else {
+        return Ok(env);
+    };
+    let name = a.copy(alloc)?;
+    let mut bindings = env.into_vec();
+    let value = mem::replace(&mut bindings[place].value, Arg::Word(0));
+    let value = with_element(value, i, n);
+    bindings[place] = Binding { name, value };
+    Ok(List::from_vec(bindings))
 }
 
 /// The environment after a block, at whose end `inner` is the environment: only the listed names carry over.

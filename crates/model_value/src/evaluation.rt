@@ -20,7 +20,7 @@ pub fn eval(e: &Expr, env: &[Binding]) -> u32
         Expr::Either(p, q) => u32::from(eval(p, env) != 0 || eval(q, env) != 0),
         Expr::ToWord(p) => eval(p, env),
         Expr::ToByte(p) => eval(p, env) & 0xff,
-        Expr::Get(a, i) => element(value_of(env, a), eval(i, env)),
-        Expr::Tab(_, entries, i) => word_at(entries.as_slice(), eval(i, env)),
+        Expr::Get(a, i) => element(value_of(env, a), eval(i, env) as usize),
+        Expr::Tab(_, entries, i) => word_at(entries.as_slice(), eval(i, env) as usize),
     }
 }

@@ -1,10 +1,13 @@
 //! What statements do to an environment.
 ghost use Rattle.std.specs.Prelude.{◌≡◌, map, fold, IfOk};
+ghost use Rattle.std.specs.Option.{option_copied};
+ghost use Rattle.model_syntax.specs.Environment.{carry, elements};
 ghost use Rattle.model_syntax.specs.Value as spec;
 
+use crate::blocks::{all_aside, all_bound, restored};
 use crate::environment::{
-    Environment, carry, copy_environment, elements, low_bytes, number, put, put_some, value_of,
-    with_element,
+    Environment, carry, copy_environment, copy_value, count, element, elements, low_bytes, number,
+    put, put_element, value_of, with_element,
 };
 use crate::evaluation::eval;
 use model_syntax::{Expr, Stmt};
@@ -21,17 +24,15 @@ fn run_stmt(alloc: Global, env: Environment, stmt: &Stmt) -> Result<Environment,
             let value = Arg::Word(eval(e, env.as_slice()));
             put(alloc, env, x, value)
         }
-        Stmt::Put(a, i, e) => run_put(alloc, env, a, a, i, e),
-        Stmt::Move(b, a, i, e) => run_put(alloc, env, b, a, i, e),
+        Stmt::Put(a, i, e) => run_put(alloc, env, a, i, e),
+        Stmt::Move(b, a, i, e) => run_move(alloc, env, b, a, i, e),
         Stmt::If(test, names, _, first, second) => {
             let block = if eval(test, env.as_slice()) == 0 {
                 second
             } else {
                 first
             };
-            let inner = copy_environment(alloc, env.as_slice())?;
-            let inner = run_block(alloc, inner, block.as_slice())?;
-            carry(alloc, names.as_slice(), inner.as_slice(), env)
+            run_inside(alloc, env, names.as_slice(), block.as_slice())
         }
         Stmt::For(x, low, high, names, _, body) => {
             let low = eval(low, env.as_slice());
@@ -55,6 +56,28 @@ pub fn run_block(alloc: Global, env: Environment, stmts: &[Stmt]) -> Result<Envi
     Ok(after)
 }
 
+/// The environment after a block of which only the listed names carry over. Where each of them has a value before,
+/// the block runs in the environment itself, and the other names that it may change are kept aside.
+#[cycle(run)]
+#[tactic(auto, using(crate::proofs::Carried::block_carried, crate::proofs::Carried::block_longer))]
+fn run_inside(
+    alloc: Global,
+    env: Environment,
+    names: &[Name],
+    block: &[Stmt],
+) -> Result<Environment, NoMemory>
+    ensures { IfOk result (λ after. after ≡ carry names.now (spec.in_turn (map spec.run block.now) env) env) }
+{
+    if !all_bound(names, env.as_slice()) {
+        let inner = copy_environment(alloc, env.as_slice())?;
+        let inner = run_block(alloc, inner, block)?;
+        return carry(alloc, names, inner.as_slice(), env);
+    }
+    let kept = all_aside(alloc, None, names, block, env.as_slice())?;
+    let inner = run_block(alloc, env, block)?;
+    Ok(restored(kept, inner))
+}
+
 /// The environment after a turn of a body for each number from `low` to `high` - 1.
 #[cycle(run)]
 #[tactic(auto, using(crate::proofs::Turns::numbers_more))]
@@ -76,7 +99,9 @@ fn run_loop(
     Ok(after)
 }
 
+/// A turn likewise: the counter's value comes back too.
 #[cycle(run)]
+#[tactic(auto, using(crate::proofs::Carried::turn_carried, crate::proofs::Carried::turn_longer))]
 fn run_turn(
     alloc: Global,
     env: Environment,
@@ -87,14 +112,34 @@ fn run_turn(
 ) -> Result<Environment, NoMemory>
     ensures { IfOk result (λ after. after ≡ spec.loop_turn x.now names.now (map spec.run body.now) i env) }
 {
-    let inner = copy_environment(alloc, env.as_slice())?;
-    let inner = put(alloc, inner, x, Arg::Word(i))?;
+    if !all_bound(names, env.as_slice()) {
+        let inner = copy_environment(alloc, env.as_slice())?;
+        let inner = put(alloc, inner, x, Arg::Word(i))?;
+        let inner = run_block(alloc, inner, body)?;
+        return carry(alloc, names, inner.as_slice(), env);
+    }
+    let kept = all_aside(alloc, Some(x), names, body, env.as_slice())?;
+    let inner = put(alloc, env, x, Arg::Word(i))?;
     let inner = run_block(alloc, inner, body)?;
-    carry(alloc, names, inner.as_slice(), env)
+    Ok(restored(kept, inner))
+}
+
+fn run_put(
+    alloc: Global,
+    env: Environment,
+    a: &Name,
+    index: &Expr,
+    e: &Expr,
+) -> Result<Environment, NoMemory>
+    ensures { IfOk result (λ after. after ≡ spec.element_put a.now a.now index.now e.now env) }
+{
+    let i = eval(index, env.as_slice());
+    let n = eval(e, env.as_slice());
+    put_element(alloc, env, a, i, n)
 }
 
 /// `b` becomes `a` with an element put.
-fn run_put(
+fn run_move(
     alloc: Global,
     env: Environment,
     b: &Name,
@@ -106,8 +151,11 @@ fn run_put(
 {
     let i = eval(index, env.as_slice());
     let n = eval(e, env.as_slice());
-    let changed = with_element(alloc, value_of(env.as_slice(), a), i, n)?;
-    put_some(alloc, env, b, changed)
+    let value = match value_of(env.as_slice(), a) {
+        None => return Ok(env),
+        Some(value) => copy_value(alloc, value)?,
+    };
+    put(alloc, env, b, with_element(value, i, n))
 }
 
 fn run_map(
@@ -162,8 +210,7 @@ fn run_fold(
 {
     let inner = copy_environment(alloc, env.as_slice())?;
     let start = number(value_of(env.as_slice(), t));
-    let elements = elements(alloc, value_of(env.as_slice(), a))?;
-    let end = folded(alloc, inner, t, x, e, start, elements.as_slice())?;
+    let end = folded(alloc, inner, t, x, e, start, value_of(env.as_slice(), a))?;
     put(alloc, env, t, Arg::Word(end))
 }
 
@@ -175,15 +222,15 @@ fn folded(
     x: &Name,
     e: &Expr,
     start: u32,
-    elements: &[u32],
+    array: Option<&Arg>,
 ) -> Result<u32, NoMemory>
-    ensures { IfOk result (λ end. end ≡ fold (spec.fold_turn t.now x.now e.now env) start elements.now) }
+    ensures { IfOk result (λ end. end ≡ fold (spec.fold_turn t.now x.now e.now env) start (elements (option_copied array.entry))) }
 {
     let mut inner = env;
     let mut so_far = start;
-    for element in elements {
+    for i in 0..count(array) {
         inner = put(alloc, inner, t, Arg::Word(so_far))?;
-        inner = put(alloc, inner, x, Arg::Word(*element))?;
+        inner = put(alloc, inner, x, Arg::Word(element(array, i)))?;
         so_far = eval(e, inner.as_slice());
     }
     Ok(so_far)

@@ -1,6 +1,6 @@
 //! What holds of contexts and states.
 ghost use Rattle.sym_heap.specs.Arrival.{StartFits};
-ghost use Rattle.sym_heap.specs.Scoped.{StartIsScoped};
+ghost use Rattle.sym_heap.specs.Scoped.{StartIsScoped, CallsAreScoped};
 
 /// Where the arguments meet the model and stand in locals and memory as they should, the context at the start fits,
 /// with the arguments' numbers for the entry symbols.
@@ -11,4 +11,9 @@ pub fn start_fits()
 /// The context at the start of a well typed model says of names what the scope of its parameters does.
 pub fn start_is_scoped()
     ensures { StartIsScoped }
+{}
+
+/// What each call makes of a context says of names what the scope after it does.
+pub fn calls_are_scoped()
+    ensures { CallsAreScoped }
 {}

@@ -9,7 +9,7 @@ mod places;
 mod sides;
 
 pub use context::Ctx;
-pub use laws::{start_fits, start_is_scoped};
+pub use laws::{calls_are_scoped, start_fits, start_is_scoped};
 pub use parts::{Clause, Held};
 pub use sides::{NameForms, difference};
 

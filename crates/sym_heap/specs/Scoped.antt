@@ -80,9 +80,9 @@ pub record CallsAreScoped : Type 0 where
   pub back : (ps : List Param) (scope : Scope) (old c : Context) → IsScoped ps scope old → c.entries ≡ old.entries → IsScoped ps scope (back_to old c)
   -- a scalar is bound that takes no array's name
   pub bound : (ps : List Param) (scope : Scope) (c : Context) (h : Held) → scalar_may_take (look_up scope h.name) ≡ Ok tt → IsScoped ps scope c
-    → IsScoped ps (bind h.name (One h.kind) scope) (with_scalar h c)
+      → IsScoped ps (bind h.name (One h.kind) scope) (with_scalar h c)
   -- an array in scope takes a new name
   pub moved : (ps : List Param) (scope : Scope) (c : Context) (a b : Name) (t : Scalar) (n : Len) → look_up scope a ≡ Some (Many t n) → look_up scope b ≡ None
-    → IsScoped ps scope c → IsScoped ps (bind b (Many t n) scope) (with_clause a (renamed b) c)
+      → IsScoped ps scope c → IsScoped ps (bind b (Many t n) scope) (with_clause a (renamed b) c)
   pub counted : (ps : List Param) (scope : Scope) (c : Context) (a : Name) → IsScoped ps scope c → IsScoped ps scope (with_clause a written c)
   pub dropped : (ps : List Param) (scope : Scope) (c : Context) (a : Name) → IsScoped ps scope c → IsScoped ps scope (without_clause a c)

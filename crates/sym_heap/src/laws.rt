@@ -1,5 +1,6 @@
 //! What holds of contexts and states.
 ghost use Rattle.sym_heap.specs.Arrival.{StartFits};
+ghost use Rattle.sym_heap.specs.Moves.{CallsMove};
 ghost use Rattle.sym_heap.specs.Scoped.{StartIsScoped, CallsAreScoped};
 
 /// Where the arguments meet the model and stand in locals and memory as they should, the context at the start fits,
@@ -16,4 +17,10 @@ pub fn start_is_scoped()
 /// What each call makes of a context says of names what the scope after it does.
 pub fn calls_are_scoped()
     ensures { CallsAreScoped }
+{}
+
+/// What the calls make of a context, whatever the state: arrays follow one another by their parameters, and what is bound
+/// is not reserved, or was there before.
+pub fn calls_move()
+    ensures { CallsMove }
 {}

@@ -165,7 +165,7 @@ dropped_scoped ps scope c a s = record {
   clauses = λ i k at. s.clauses (skip (is_clause a) c.clauses i) k (left_at (is_clause a) c.clauses i k at);
   scalars_once = s.scalars_once;
   clauses_once = λ i j k l at_i at_j differ. s.clauses_once (skip (is_clause a) c.clauses i) (skip (is_clause a) c.clauses j) k l
-    (left_at (is_clause a) c.clauses i k at_i) (left_at (is_clause a) c.clauses j l at_j) (λ e. differ (skip_apart (is_clause a) c.clauses i j e));
+      (left_at (is_clause a) c.clauses i k at_i) (left_at (is_clause a) c.clauses j l at_j) (λ e. differ (skip_apart (is_clause a) c.clauses i j e));
   entries = s.entries;
   few = s.few;
 }

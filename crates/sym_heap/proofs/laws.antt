@@ -1,3 +1,4 @@
 pub mod Elements
 pub mod Moves
 pub mod Scopes
+pub mod Writes

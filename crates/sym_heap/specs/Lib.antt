@@ -7,3 +7,4 @@ pub mod Moves
 pub mod Scoped
 pub mod Sides
 pub mod Start
+pub mod Writes

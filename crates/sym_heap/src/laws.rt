@@ -2,6 +2,7 @@
 ghost use Rattle.sym_heap.specs.Arrival.{StartFits};
 ghost use Rattle.sym_heap.specs.Moves.{CallsMove};
 ghost use Rattle.sym_heap.specs.Scoped.{StartIsScoped, CallsAreScoped};
+ghost use Rattle.sym_heap.specs.Writes.{WritesFit};
 
 /// Where the arguments meet the model and stand in locals and memory as they should, the context at the start fits,
 /// with the arguments' numbers for the entry symbols.
@@ -23,4 +24,9 @@ pub fn calls_are_scoped()
 /// is not reserved, or was there before.
 pub fn calls_move()
     ensures { CallsMove }
+{}
+
+/// A context fits after a write to an array as it did before, so that a loop's context fits at its second turn.
+pub fn writes_fit()
+    ensures { WritesFit }
 {}

@@ -1,7 +1,7 @@
 //! What holds of contexts and states.
 ghost use Rattle.sym_heap.specs.Arrival.{StartFits};
 ghost use Rattle.sym_heap.specs.Moves.{CallsMove};
-ghost use Rattle.sym_heap.specs.Scoped.{StartIsScoped, CallsAreScoped};
+ghost use Rattle.sym_heap.specs.Scoped.{StartIsScoped, CallsAreScoped, EndsAreScoped};
 ghost use Rattle.sym_heap.specs.Writes.{WritesFit};
 
 /// Where the arguments meet the model and stand in locals and memory as they should, the context at the start fits,
@@ -29,4 +29,9 @@ pub fn calls_move()
 /// A context fits after a write to an array as it did before, so that a loop's context fits at its second turn.
 pub fn writes_fit()
     ensures { WritesFit }
+{}
+
+/// What the ends of blocks make of a context says of names what the scope after them does.
+pub fn ends_are_scoped()
+    ensures { EndsAreScoped }
 {}

@@ -108,4 +108,4 @@ pub record EndsAreScoped : Type 0 where
   pub back : (ps : List Param) (scope : Scope) (c end_ : Context) → IsScoped ps scope c → end_.entries ≡ c.entries → IsScoped ps scope (restored (standing c) end_)
   pub alike : (ps : List Param) (scope after : Scope) (c : Context) → ((x : Name) → look_up after x ≡ look_up scope x) → IsScoped ps scope c → IsScoped ps after c
   pub over : (ps : List Param) (names : List Name) (scope end_scope after : Scope) (c one two : Context) → IsScoped ps scope c → IsScoped ps end_scope one
-    → EndsAgree names scope end_scope after c one two → IsScoped ps after (with_ends names (standing one) (standing two) c)
+      → EndsAgree names scope end_scope after c one two → IsScoped ps after (with_ends names (standing one) (standing two) c)

@@ -126,11 +126,11 @@ written_fits call numbers c a k i n env after_env mem after locals fits is w = r
       let one = somewhere (is_clause a) c.clauses k is in
       let two = somewhere (is_clause b) c.clauses l at in
       fits.ranges one.place two.place k l one.at two.at (λ place.
-        let both : Some k ≡ Some l = sym one.at ∙ ap (slice_get c.clauses) place ∙ two.at in
-        let one_clause : k ≡ l = cc in
-        let named_a : k.name ≡ a = same_is k.name a one.passes in
-        let named_b : l.name ≡ b = same_is l.name b two.passes in
-        unlike a b e (sym named_a ∙ ap (λ (z : Clause). z.name) one_clause ∙ named_b))
+      let both : Some k ≡ Some l = sym one.at ∙ ap (slice_get c.clauses) place ∙ two.at in
+      let one_clause : k ≡ l = cc in
+      let named_a : k.name ≡ a = same_is k.name a one.passes in
+      let named_b : l.name ≡ b = same_is l.name b two.passes in
+      unlike a b e (sym named_a ∙ ap (λ (z : Clause). z.name) one_clause ∙ named_b))
 
   clauses : (b : Name) (l : Clause) → own c b ≡ Some l → (t : Bool) → same a b ≡ t → ClauseFits call numbers l (value_of after_env b) after locals
   clauses b l at true e =
@@ -144,7 +144,7 @@ written_fits call numbers c a k i n env after_env mem after locals fits is w = r
   clauses b l at false e =
       subst (λ (o : Option Arg). ClauseFits call numbers l o after locals) (sym (w.values b e))
       (other_clause call numbers l (element_range call k i) (value_of env b) mem after locals (fits.clauses b l at)
-        (λ address one two. far b l at e address (inside_range call numbers k i (value_of env a) mem locals f w.inside address one) two) w.others)
+      (λ address one two. far b l at e address (inside_range call numbers k i (value_of env a) mem locals f w.inside address one) two) w.others)
 
 -- Arguments.
 

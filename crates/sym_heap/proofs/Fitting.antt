@@ -93,12 +93,12 @@ params_reserved (q ∷ qs) p c all = params_reserved qs (p + 1) (with_param p q 
 
 -- What is found stands somewhere.
 
-record Somewhere {A : Type 0} (test : A → Bool) (xs : List A) (x : A) : Type 0 where
+pub record Somewhere {A : Type 0} (test : A → Bool) (xs : List A) (x : A) : Type 0 where
   pub place : ℕ
   pub at : slice_get xs place ≡ Some x
   pub passes : test x ≡ true
 
-somewhere : {A : Type 0} (test : A → Bool) (xs : List A) (x : A) → find test xs ≡ Some x → Somewhere test xs x
+pub somewhere : {A : Type 0} (test : A → Bool) (xs : List A) (x : A) → find test xs ≡ Some x → Somewhere test xs x
 somewhere test [] x is = absurd (let bad : None ≡ Some x = is in cc)
 somewhere {A} test (y ∷ ys) x is = by (test y) refl (λ r. somewhere test ys x r) where
   by : (b : Bool) → test y ≡ b → (find test ys ≡ Some x → Somewhere test ys x) → Somewhere test (y ∷ ys) x

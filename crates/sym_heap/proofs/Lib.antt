@@ -5,6 +5,7 @@ mod Firsts
 mod Fitting
 mod Formed
 mod Limits
+mod Named
 mod Narrow
 mod Scoping
 mod Starting

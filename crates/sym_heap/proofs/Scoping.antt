@@ -3,7 +3,6 @@ use Rattle.std.proofs.Common.{◌≡◌, ◌≢◌, refl, sym, ◌∙◌, ap, su
 use Rattle.std.specs.Prelude.{is_some}
 use Rattle.std.specs.List.{find}
 use Rattle.std.proofs.lemmas.List.{append-nil}
-use Rattle.std.proofs.lemmas.Slice.Eq.{bytes_eq-Decides as bytes_decides}
 use Rattle.side_certs.specs.LinearForm.{LinearForm, constant, symbol}
 use Rattle.model_syntax.specs.declared.expr.Scalar.{Scalar}
 use Rattle.model_syntax.specs.declared.expr.Scalar.TheVariants.{Word, Byte}
@@ -17,14 +16,16 @@ use Rattle.model_syntax.specs.Answer.{◌>>=◌}
 use Rattle.model_syntax.specs.Names.{Name, same}
 use Rattle.model_syntax.specs.Scope.{Scope, look_up, bind}
 use Rattle.model_syntax.specs.Types as types
+use Rattle.model_syntax.proofs.laws.Bindings.{same_self}
 use Rattle.sym_heap.specs.declared.parts.Held.{Held}
 use Rattle.sym_heap.specs.declared.parts.Clause.{Clause}
-use Rattle.sym_heap.specs.Context.{Context, held, is_scalar, is_clause}
+use Rattle.sym_heap.specs.Context.{Context, held, is_scalar}
 use Rattle.sym_heap.specs.Scoped.{entry_names, element_size, IsLength, IsEntryLength, IsArrayOf, StartIsScoped}
 use Rattle.sym_heap.specs.Start.{empty, next_local, with_argument, clause, with_pointer, with_array, with_param, with_params, registers}
 use Rattle.sym_heap.proofs.Arriving.{at_end}
 use Rattle.sym_heap.proofs.Declared.{Answered, answered, declared, Declared, declared_parts, few_registers}
 use Rattle.sym_heap.proofs.Formed.{look_bound}
+use Rattle.sym_heap.proofs.Named.{differs}
 use Rattle.sym_heap.proofs.Starting.{after_params}
 
 -- Lists.
@@ -62,15 +63,6 @@ map_last f (x ∷ xs) y = ap (λ ys. f x ∷ ys) (map_last f xs y)
 
 -- Names.
 
-differs : (x y : Name) → (x ≡ y → ⊥) → same x y ≡ false
-differs x y apart = by (same x y) refl where
-  by : (b : Bool) → same x y ≡ b → same x y ≡ false
-  by true e = absurd (apart ((bytes_decides x y).0 e))
-  by false e = e
-
-same_self : (x : Name) → same x x ≡ true
-same_self x = (bytes_decides x x).1 refl
-
 -- a name of the scope and a new one
 apart : (scope : Scope) (x y : Name) (u : NameType) → look_up scope x ≡ None → look_up scope y ≡ Some u → x ≡ y → ⊥
 apart scope x y u new known is = let bad : None ≡ Some u = sym new ∙ ap (look_up scope) is ∙ known in absurd (cc)
@@ -90,7 +82,6 @@ record Stage (names : List Name) (scope : Scope) (c : Context) : Type 0 where
   pub scalars : (i : ℕ) (h : Held) → slice_get c.scalars i ≡ Some h → look_up scope h.name ≡ Some (One h.kind)
   pub every_scalar : (x : Name) (t : Scalar) → look_up scope x ≡ Some (One t) → is_some (find (is_scalar x) c.scalars) ≡ true
   pub clauses : (i : ℕ) (k : Clause) → slice_get c.clauses i ≡ Some k → IsArrayOf names scope k
-  pub every_array : (a : Name) (t : Scalar) (n : Len) → look_up scope a ≡ Some (Many t n) → is_some (find (is_clause a) c.clauses) ≡ true
   pub scalars_once : (i j : ℕ) (h k : Held) → slice_get c.scalars i ≡ Some h → slice_get c.scalars j ≡ Some k → i ≢ j → same h.name k.name ≡ false
   pub clauses_once : (i j : ℕ) (k l : Clause) → slice_get c.clauses i ≡ Some k → slice_get c.clauses j ≡ Some l → i ≢ j → same k.name l.name ≡ false
 
@@ -103,7 +94,6 @@ wider names more scope c s = record {
   scalars = s.scalars;
   every_scalar = s.every_scalar;
   clauses = λ i k at. (let a = s.clauses i k at in record { element = a.element; len = a.len; type = a.type; size = a.size; length_is = wider_length names more a.len k.length k.length_local a.length_is });
-  every_array = s.every_array;
   scalars_once = s.scalars_once;
   clauses_once = s.clauses_once;
 }
@@ -113,7 +103,6 @@ argument_stage names scope c x t s new = record {
   scalars = λ i h at. in_scalars h (at_end c.scalars new_one i h at);
   every_scalar = λ y u at. found y u (same x y) refl at;
   clauses = λ i k at. (let a = s.clauses i k at in record { element = a.element; len = a.len; type = bound_before scope x (One t) k.name (Many a.element a.len) new a.type; size = a.size; length_is = a.length_is });
-  every_array = λ a u n at. array a u n (same x a) refl at;
   scalars_once = λ i j h k at_i at_j differ. once i j h k (at_end c.scalars new_one i h at_i) (at_end c.scalars new_one j k at_j) differ;
   clauses_once = s.clauses_once;
 } where
@@ -127,10 +116,6 @@ argument_stage names scope c x t s new = record {
   found : (y : Name) (u : Scalar) (b : Bool) → same x y ≡ b → look_up (bind x (One t) scope) y ≡ Some (One u) → is_some (find (is_scalar y) (c.scalars ++ new_one ∷ [])) ≡ true
   found y u true e at = some_last (is_scalar y) c.scalars new_one e
   found y u false e at = some_before (is_scalar y) c.scalars (new_one ∷ []) (s.every_scalar y u (sym (look_bound x (One t) scope y ∙ rw e refl) ∙ at))
-
-  array : (a : Name) (u : Scalar) (n : Len) (b : Bool) → same x a ≡ b → look_up (bind x (One t) scope) a ≡ Some (Many u n) → is_some (find (is_clause a) c.clauses) ≡ true
-  array a u n true e at = absurd (let bad : Some (One t) ≡ Some (Many u n) = sym (look_bound x (One t) scope a ∙ rw e refl) ∙ at in cc)
-  array a u n false e at = s.every_array a u n (sym (look_bound x (One t) scope a ∙ rw e refl) ∙ at)
 
   other : (i : ℕ) (h : Held) → slice_get c.scalars i ≡ Some h → (same h.name x ≡ false) × (same x h.name ≡ false)
   other i h at =
@@ -149,7 +134,6 @@ pointer_stage names scope c p a size t n f l s new size_is length_is = record {
   scalars = λ i h at. bound_before scope a (Many t n) h.name (One h.kind) new (s.scalars i h at);
   every_scalar = λ y u at. scalar y u (same a y) refl at;
   clauses = λ i k at. in_clauses i k (at_end c.clauses new_one i k at);
-  every_array = λ b u m at. found b u m (same a b) refl at;
   scalars_once = s.scalars_once;
   clauses_once = λ i j k o at_i at_j differ. once i j k o (at_end c.clauses new_one i k at_i) (at_end c.clauses new_one j o at_j) differ;
 } where
@@ -166,10 +150,6 @@ pointer_stage names scope c p a size t n f l s new size_is length_is = record {
   in_clauses : (i : ℕ) (k : Clause) → (slice_get c.clauses i ≡ Some k) ⊎ ((i ≡ length c.clauses) × (new_one ≡ k)) → IsArrayOf names (bind a (Many t n) scope) k
   in_clauses i k (inl before) = let o = s.clauses i k before in record { element = o.element; len = o.len; type = bound_before scope a (Many t n) k.name (Many o.element o.len) new o.type; size = o.size; length_is = o.length_is }
   in_clauses i k (inr at) = subst (λ (g : Clause). IsArrayOf names (bind a (Many t n) scope) g) at.1 last
-
-  found : (b : Name) (u : Scalar) (m : Len) (is : Bool) → same a b ≡ is → look_up (bind a (Many t n) scope) b ≡ Some (Many u m) → is_some (find (is_clause b) (c.clauses ++ new_one ∷ [])) ≡ true
-  found b u m true e at = some_last (is_clause b) c.clauses new_one e
-  found b u m false e at = some_before (is_clause b) c.clauses (new_one ∷ []) (s.every_array b u m (sym (look_bound a (Many t n) scope b ∙ rw e refl) ∙ at))
 
   other : (i : ℕ) (k : Clause) → slice_get c.clauses i ≡ Some k → (same k.name a ≡ false) × (same a k.name ≡ false)
   other i k at =
@@ -224,7 +204,7 @@ array_here scope d c p a size t n s is size_is = by n refl parts.two where
       } in
       let stage = pointed names f l (wider (scalar_names c) (x ∷ []) scope c s) (subst (λ (m : Len). IsLength names m f l) (sym which) entry) in
       let argument = argument_here parts.value d (with_pointer p a size f l c) x Word stage rest in
-      record { scalars = argument.scalars; every_scalar = argument.every_scalar; clauses = argument.clauses; every_array = argument.every_array; scalars_once = argument.scalars_once; clauses_once = argument.clauses_once }
+      record { scalars = argument.scalars; every_scalar = argument.every_scalar; clauses = argument.clauses; scalars_once = argument.scalars_once; clauses_once = argument.clauses_once }
 
 param_here : (scope d : Scope) (c : Context) (p : ℕ) (q : Param) → Here scope c → types.declare_param q scope ≡ Ok d → Here d (with_param p q c)
 param_here scope d c p (param.Word x) s is = argument_here scope d c x Word (wider (scalar_names c) (x ∷ []) scope c s) is
@@ -262,7 +242,6 @@ nothing_yet = record {
   scalars = λ i h bad. absurd (let worse : None ≡ Some h = bad in cc);
   every_scalar = λ x t bad. absurd (let worse : None ≡ Some (One t) = bad in cc);
   clauses = λ i k bad. absurd (let worse : None ≡ Some k = bad in cc);
-  every_array = λ a t n bad. absurd (let worse : None ≡ Some (Many t n) = bad in cc);
   scalars_once = λ i j h k bad. absurd (let worse : None ≡ Some h = bad in cc);
   clauses_once = λ i j k l bad. absurd (let worse : None ≡ Some k = bad in cc);
 }
@@ -279,7 +258,6 @@ start_is_scoped m well scope is =
       scalars = s.scalars;
       every_scalar = s.every_scalar;
       clauses = s.clauses;
-      every_array = s.every_array;
       scalars_once = s.scalars_once;
       clauses_once = s.clauses_once;
       entries = sym count ∙ same_count;

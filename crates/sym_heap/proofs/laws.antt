@@ -1,2 +1,5 @@
 pub mod Elements
+pub mod EndScopes
+pub mod Moves
 pub mod Scopes
+pub mod Writes

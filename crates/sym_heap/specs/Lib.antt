@@ -1,7 +1,10 @@
 pub mod Arrival
 pub mod Context
 pub mod Elements
+pub mod Ends
 pub mod Fits
+pub mod Moves
 pub mod Scoped
 pub mod Sides
 pub mod Start
+pub mod Writes

@@ -14,7 +14,10 @@ use side_certs::Form;
 use std::alloc::Global;
 use std::marker::Model;
 
+mod ends;
 mod start;
+
+pub use ends::Mark;
 
 /// The greatest number of symbols.
 const MOST_SYMBOLS: usize = 0xffff_ffff;

@@ -8,8 +8,10 @@ mod parts;
 mod places;
 mod sides;
 
-pub use context::Ctx;
-pub use laws::{start_fits, start_is_scoped};
+pub use context::{Ctx, Mark};
+pub use laws::{
+    calls_are_scoped, calls_move, ends_are_scoped, start_fits, start_is_scoped, writes_fit,
+};
 pub use parts::{Clause, Held};
 pub use sides::{NameForms, difference};
 

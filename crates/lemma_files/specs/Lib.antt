@@ -1,0 +1,4 @@
+pub mod Fits
+pub mod Matching
+pub mod Same
+pub mod Steps

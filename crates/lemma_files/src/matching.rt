@@ -2,8 +2,8 @@
 ghost use Rattle.std.specs.Prelude.{◌≡◌, Some, None, IfOk, if◌then◌else◌, option_map};
 ghost use Rattle.lemma_files.specs.Matching as spec;
 
-use crate::terms::Pattern;
 use crate::same::{same_cmp, same_entries, same_expr, same_op, same_scalar};
+use crate::terms::Pattern;
 use model_syntax::{Expr, copy_expr};
 use rup_base::{List, Name, NoMemory};
 use std::alloc::Global;
@@ -56,12 +56,16 @@ fn match_at(
         (Pattern::Lit(m), Expr::Lit(n)) => Ok(m == n),
         (Pattern::Var(x), Expr::Var(y)) => Ok(x == y),
         (Pattern::Length(x), Expr::Length(y)) => Ok(x == y),
-        (Pattern::Bin(op, p, q), Expr::Bin(other, a, b)) => Ok(same_op(*op, *other)
-            && match_at(alloc, p, a, filled)?
-            && match_at(alloc, q, b, filled)?),
-        (Pattern::Test(cmp, p, q), Expr::Test(other, a, b)) => Ok(same_cmp(*cmp, *other)
-            && match_at(alloc, p, a, filled)?
-            && match_at(alloc, q, b, filled)?),
+        (Pattern::Bin(op, p, q), Expr::Bin(other, a, b)) => Ok(
+            same_op(*op, *other)
+                && match_at(alloc, p, a, filled)?
+                && match_at(alloc, q, b, filled)?,
+        ),
+        (Pattern::Test(cmp, p, q), Expr::Test(other, a, b)) => Ok(
+            same_cmp(*cmp, *other)
+                && match_at(alloc, p, a, filled)?
+                && match_at(alloc, q, b, filled)?,
+        ),
         (Pattern::Not(p), Expr::Not(a)) => match_at(alloc, p, a, filled),
         (Pattern::Both(p, q), Expr::Both(a, b)) => {
             Ok(match_at(alloc, p, a, filled)? && match_at(alloc, q, b, filled)?)
@@ -73,9 +77,11 @@ fn match_at(
         (Pattern::ToByte(p), Expr::ToByte(a)) => match_at(alloc, p, a, filled),
         (Pattern::Get(x, p), Expr::Get(y, a)) => Ok(x == y && match_at(alloc, p, a, filled)?),
         (Pattern::Tab(scalar, entries, p), Expr::Tab(other, numbers, a)) => {
-            Ok(same_scalar(*scalar, *other)
-                && same_entries(entries.as_slice(), numbers.as_slice())
-                && match_at(alloc, p, a, filled)?)
+            Ok(
+                same_scalar(*scalar, *other)
+                    && same_entries(entries.as_slice(), numbers.as_slice())
+                    && match_at(alloc, p, a, filled)?,
+            )
         }
         _ => Ok(false),
     }

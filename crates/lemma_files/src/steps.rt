@@ -2,8 +2,8 @@
 ghost use Rattle.std.specs.Prelude.{◌≡◌, Ok, IfOk};
 ghost use Rattle.lemma_files.specs.Steps as spec;
 
-use crate::terms::Lemma;
 use crate::matching::matches;
+use crate::terms::Lemma;
 use equations::Book;
 use model_syntax::{Expr, copy_expr};
 use rup_base::{List, NoMemory};

@@ -1,5 +1,5 @@
 -- Ends of blocks: what a context goes back to, and what the arrays that a statement lists keep of an end.
-use Rattle.std.specs.Prelude.{ℕ, nat_eq, nat_lt, Bool, List, length, map, take, Option, Some, None, if◌then◌else◌}
+use Rattle.std.specs.Prelude.{ℕ, nat_eq, nat_lt, Bool, List, length, map, take, Option, Some, if◌then◌else◌}
 use Rattle.std.specs.List.{find}
 use Rattle.model_syntax.specs.Names.{Name, listed}
 use Rattle.sym_heap.specs.declared.parts.Held.{Held}

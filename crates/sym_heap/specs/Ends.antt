@@ -1,5 +1,5 @@
 -- Ends of blocks: what a context goes back to, and what the arrays that a statement lists keep of an end.
-use Rattle.std.specs.Prelude.{ℕ, nat_eq, nat_lt, Bool, List, length, map, take, Option, Some, None, if◌then◌else◌}
+use Rattle.std.specs.Prelude.{ℕ, nat_eq, nat_lt, Bool, List, length, map, take, Option, Some, if◌then◌else◌}
 use Rattle.std.specs.List.{find}
 use Rattle.model_syntax.specs.Names.{Name, listed}
 use Rattle.sym_heap.specs.declared.parts.Held.{Held}
@@ -20,7 +20,12 @@ standing c = record { scalars = c.scalars; clauses = c.clauses; facts = length c
 
 -- scalars and clauses are those that stood, facts and reserved locals the first so many; symbols and tops stay
 abbrev pub restored : Standing → Context → Context
-restored s c = record c { scalars = s.scalars; clauses = s.clauses; facts = take s.facts c.facts; reserved = take s.reserved c.reserved }
+restored s c = record c {
+  scalars = s.scalars;
+  clauses = s.clauses;
+  facts = take s.facts c.facts;
+  reserved = take s.reserved c.reserved;
+}
 
 -- Arrays at ends.
 
@@ -36,7 +41,8 @@ greater n m = if nat_lt n m then m else n
 
 -- the clause with the name of the first end and the greater writes of both, where that name is listed
 abbrev pub taken_over : List Name → Option Clause → Option Clause → Clause → Clause
-taken_over names (Some one) (Some two) k = if listed one.name names then record k { name = one.name; writes = greater one.writes two.writes } else k
+taken_over names (Some one) (Some two) k =
+    if listed one.name names then record k { name = one.name; writes = greater one.writes two.writes } else k
 taken_over names one two k = k
 
 -- a clause after two blocks, of which it is that before

@@ -33,7 +33,8 @@ local_of (Some h) = Some h.local
 pub record Moves (before after : Context) : Type 0 where
   pub arrays : Follow before.clauses after.clauses
   -- what is bound in a reserved local was there before, in that local
-  pub locals : (x : Name) (h : Held) → scalar after x ≡ Some h → has h.local before.reserved ≡ true → local_of (scalar before x) ≡ Some h.local
+  pub locals : (x : Name) (h : Held) → scalar after x ≡ Some h → has h.local before.reserved ≡ true
+      → local_of (scalar before x) ≡ Some h.local
   -- nothing is reserved for good; facts and symbols are added at the end
   pub reserved : after.reserved ≡ before.reserved
   pub facts : take (length before.facts) after.facts ≡ before.facts
@@ -63,6 +64,7 @@ pub record CallsMove : Type 0 where
   pub moved : (c : Context) (a b : Name) → Moves c (with_clause a (renamed b) (with_clause a written c))
   pub params_once : (c : Context) → IsConsistent c → ParamsOnce c.clauses
   -- after a block all but symbols and tops is as it was, and so it stays where listed arrays take over what they are at ends
-  pub back : (c end_ : Context) → Began c end_ → (restored (standing c) end_ ≡ back_to c end_) × Moves c (restored (standing c) end_)
+  pub back : (c end_ : Context) → Began c end_
+      → (restored (standing c) end_ ≡ back_to c end_) × Moves c (restored (standing c) end_)
   pub over : (names : List Name) (c one two : Context) → ParamsOnce c.clauses → Follow c.clauses one.clauses
       → Moves c (with_ends names (standing one) (standing two) c)

@@ -64,30 +64,41 @@ pub record IsScoped (ps : List Param) (scope : Scope) (c : Context) : Type 0 whe
   -- context where its clause is out: who uses an array asks for its clause
   pub clauses : (i : ℕ) (k : Clause) → slice_get c.clauses i ≡ Some k → IsArrayOf (entry_names ps) scope k
   -- a name occurs once
-  pub scalars_once : (i j : ℕ) (h k : Held) → slice_get c.scalars i ≡ Some h → slice_get c.scalars j ≡ Some k → i ≢ j → same h.name k.name ≡ false
-  pub clauses_once : (i j : ℕ) (k l : Clause) → slice_get c.clauses i ≡ Some k → slice_get c.clauses j ≡ Some l → i ≢ j → same k.name l.name ≡ false
+  pub scalars_once : (i j : ℕ) (h k : Held) → slice_get c.scalars i ≡ Some h → slice_get c.scalars j ≡ Some k → i ≢ j
+      → same h.name k.name ≡ false
+  pub clauses_once : (i j : ℕ) (k l : Clause) → slice_get c.clauses i ≡ Some k → slice_get c.clauses j ≡ Some l → i ≢ j
+      → same k.name l.name ≡ false
   -- the entry symbols are the parameters'
   pub entries : c.entries ≡ length (entry_names ps)
   pub few : c.entries ≤ 8
 
 -- the context at the start of a well typed model and the scope of its parameters
 abbrev pub StartIsScoped : Type 0
-StartIsScoped = (m : Model) → types.Well m → (scope : Scope) → types.declare_params m.params [] ≡ Ok scope → IsScoped m.params scope (start m)
+StartIsScoped = (m : Model) → types.Well m → (scope : Scope) → types.declare_params m.params [] ≡ Ok scope
+    → IsScoped m.params scope (start m)
 
 -- What each call makes of a context says of names what the scope after it does.
 pub record CallsAreScoped : Type 0 where
-  pub fresh : (ps : List Param) (scope : Scope) (c : Context) (top : ℕ) → IsScoped ps scope c → IsScoped ps scope (with_top top c)
-  pub fact : (ps : List Param) (scope : Scope) (c : Context) (f : LinearForm) → IsScoped ps scope c → IsScoped ps scope (with_fact f c)
-  pub reserved : (ps : List Param) (scope : Scope) (c : Context) (l : ℕ) → IsScoped ps scope c → IsScoped ps scope (with_reserved l c)
-  pub back : (ps : List Param) (scope : Scope) (old c : Context) → IsScoped ps scope old → c.entries ≡ old.entries → IsScoped ps scope (back_to old c)
+  pub fresh : (ps : List Param) (scope : Scope) (c : Context) (top : ℕ) → IsScoped ps scope c
+      → IsScoped ps scope (with_top top c)
+  pub fact : (ps : List Param) (scope : Scope) (c : Context) (f : LinearForm) → IsScoped ps scope c
+      → IsScoped ps scope (with_fact f c)
+  pub reserved : (ps : List Param) (scope : Scope) (c : Context) (l : ℕ) → IsScoped ps scope c
+      → IsScoped ps scope (with_reserved l c)
+  pub back : (ps : List Param) (scope : Scope) (old c : Context) → IsScoped ps scope old → c.entries ≡ old.entries
+      → IsScoped ps scope (back_to old c)
   -- a scalar is bound that takes no array's name
-  pub bound : (ps : List Param) (scope : Scope) (c : Context) (h : Held) → scalar_may_take (look_up scope h.name) ≡ Ok tt → IsScoped ps scope c
+  pub bound : (ps : List Param) (scope : Scope) (c : Context) (h : Held) → scalar_may_take (look_up scope h.name) ≡ Ok tt
+      → IsScoped ps scope c
       → IsScoped ps (bind h.name (One h.kind) scope) (with_scalar h c)
   -- an array in scope takes a new name
-  pub moved : (ps : List Param) (scope : Scope) (c : Context) (a b : Name) (t : Scalar) (n : Len) → look_up scope a ≡ Some (Many t n) → look_up scope b ≡ None
+  pub moved : (ps : List Param) (scope : Scope) (c : Context) (a b : Name) (t : Scalar) (n : Len)
+      → look_up scope a ≡ Some (Many t n) → look_up scope b ≡ None
       → IsScoped ps scope c → IsScoped ps (bind b (Many t n) scope) (with_clause a (renamed b) c)
-  pub counted : (ps : List Param) (scope : Scope) (c : Context) (a : Name) → IsScoped ps scope c → IsScoped ps scope (with_clause a written c)
-  pub dropped : (ps : List Param) (scope : Scope) (c : Context) (a : Name) → IsScoped ps scope c → IsScoped ps scope (without_clause a c)
+  pub counted : (ps : List Param) (scope : Scope) (c : Context) (a : Name) → IsScoped ps scope c
+      → IsScoped ps scope (with_clause a written c)
+  pub dropped : (ps : List Param) (scope : Scope) (c : Context) (a : Name) → IsScoped ps scope c
+      → IsScoped ps scope (without_clause a c)
 
 -- After two blocks that `one` and `two` are the ends of, and before which the context was c: what typing and the conditions at
 -- their ends say of the scope after them.
@@ -97,7 +108,8 @@ pub record EndsAgree (names : List Name) (scope end_scope after : Scope) (c one 
   pub once_one : ParamsOnce one.clauses
   pub once_two : ParamsOnce two.clauses
   -- an array whose name at the end is not listed has its name of before
-  pub unlisted : (i : ℕ) (k l : Clause) → slice_get c.clauses i ≡ Some k → slice_get one.clauses i ≡ Some l → listed l.name names ≡ false → k.name ≡ l.name
+  pub unlisted : (i : ℕ) (k l : Clause) → slice_get c.clauses i ≡ Some k → slice_get one.clauses i ≡ Some l
+      → listed l.name names ≡ false → k.name ≡ l.name
   -- the arrays have the types of the end, and the scalars those of before
   pub arrays : (i : ℕ) (l : Clause) → slice_get one.clauses i ≡ Some l → look_up after l.name ≡ look_up end_scope l.name
   pub scalars : (x : Name) (t : Scalar) → look_up scope x ≡ Some (One t) → look_up after x ≡ Some (One t)
@@ -105,7 +117,10 @@ pub record EndsAgree (names : List Name) (scope end_scope after : Scope) (c one 
 
 -- What the ends of blocks make of a context says of names what the scope after them does.
 pub record EndsAreScoped : Type 0 where
-  pub back : (ps : List Param) (scope : Scope) (c end_ : Context) → IsScoped ps scope c → end_.entries ≡ c.entries → IsScoped ps scope (restored (standing c) end_)
-  pub alike : (ps : List Param) (scope after : Scope) (c : Context) → ((x : Name) → look_up after x ≡ look_up scope x) → IsScoped ps scope c → IsScoped ps after c
-  pub over : (ps : List Param) (names : List Name) (scope end_scope after : Scope) (c one two : Context) → IsScoped ps scope c → IsScoped ps end_scope one
+  pub back : (ps : List Param) (scope : Scope) (c end_ : Context) → IsScoped ps scope c → end_.entries ≡ c.entries
+      → IsScoped ps scope (restored (standing c) end_)
+  pub alike : (ps : List Param) (scope after : Scope) (c : Context) → ((x : Name) → look_up after x ≡ look_up scope x)
+      → IsScoped ps scope c → IsScoped ps after c
+  pub over : (ps : List Param) (names : List Name) (scope end_scope after : Scope) (c one two : Context)
+      → IsScoped ps scope c → IsScoped ps end_scope one
       → EndsAgree names scope end_scope after c one two → IsScoped ps after (with_ends names (standing one) (standing two) c)

@@ -1,5 +1,5 @@
 -- One element of an array is written, in memory and in the values of names.
-use Rattle.std.specs.Prelude.{◌≡◌, ℕ, ◌+◌, ◌*◌, ◌<◌, ◌≤◌, false, List, length, Option, Some}
+use Rattle.std.specs.Prelude.{◌≡◌, ℕ, ◌+◌, ◌*◌, ◌<◌, ◌≤◌, false, List, length, Some}
 use Rattle.std.specs.FinMap.{get}
 use Rattle.rup_base.specs.declared.arg.Arg.{Arg}
 use Rattle.rv_memory.specs.Ranges.{Bytes, Range, Stands, Within}
@@ -26,7 +26,14 @@ pub record IsWritten (call : Call) (a : Name) (k : Clause) (i n : ℕ) (env afte
 -- A context fits after a write as it did before: so a loop's context fits at its second turn, whichever arrays the first
 -- turn wrote to. That a never written array is the argument is said of the context in which the write is counted.
 pub record WritesFit : Type 0 where
-  pub fits : (call : Call) (numbers : ℕ → ℕ) (c : Context) (a : Name) (k : Clause) (i n : ℕ) (env after_env : Env) (mem after : Bytes) (locals : Locals)
-      → FitsBy call numbers c env mem locals → own c a ≡ Some k → IsWritten call a k i n env after_env mem after → FitsBy call numbers c after_env after locals
-  pub held : (args : List Arg) (c : Context) (a : Name) (env after_env : Env) → ArgsHeld args c env → ((b : Name) → same a b ≡ false → value_of after_env b ≡ value_of env b)
+  pub fits : (call : Call) (numbers : ℕ → ℕ) (c : Context) (a : Name) (k : Clause) (i n : ℕ) (env after_env : Env)
+      (mem after : Bytes) (locals : Locals)
+      → FitsBy call numbers c env mem locals → own c a ≡ Some k → IsWritten call a k i n env after_env mem after
+      → FitsBy call numbers c after_env after locals
+  -- how often an array was written is nothing to a state
+  pub counted : (call : Call) (numbers : ℕ → ℕ) (c : Context) (a : Name) (env : Env) (mem : Bytes) (locals : Locals)
+      → FitsBy call numbers c env mem locals
+      → FitsBy call numbers (with_clause a written c) env mem locals
+  pub held : (args : List Arg) (c : Context) (a : Name) (env after_env : Env) → ArgsHeld args c env
+      → ((b : Name) → same a b ≡ false → value_of after_env b ≡ value_of env b)
       → ArgsHeld args (with_clause a written c) after_env

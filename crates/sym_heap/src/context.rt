@@ -68,7 +68,7 @@ impl Ctx {
         })
     }
 
-    /// The allocator that the context grows by.
+    /// The allocator that the context grows by. It is no part of what a context says, and no clause speaks of it.
     pub fn allocator(&self) -> Global {
         self.alloc
     }

@@ -30,9 +30,6 @@ fn a_context_grows(rt: HostRuntime) -> Result<(), Failed> {
     assert!(rt; context.add_fact(Form::symbol(0))?, "a fact");
     assert!(rt; !context.move_clause(&x, &x)?, "no clause");
     context.reserve_local(7)?;
-    let start = context.mark()?;
-    let end = context.end_block(start);
-    context.take_over(&[], &end, &end)?;
     let copy = context.copy()?;
     assert_eq!(rt;
         (copy.scalars().len(), copy.facts().len(), copy.tops()),

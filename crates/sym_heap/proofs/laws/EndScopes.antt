@@ -1,17 +1,14 @@
 -- What the ends of blocks make of a context, and the scope after them.
 use Rattle.std.proofs.Common.{◌≡◌, ◌≢◌, refl, sym, ◌∙◌, ap, subst, ℕ, zero, suc, ◌≤◌, Bool, true, false, List, [], ◌∷◌, map, Option, Some, None, slice_get}
-use Rattle.std.specs.Prelude.{is_some}
 use Rattle.side_certs.specs.LinearForm.{LinearForm}
-use Rattle.model_syntax.specs.declared.expr.Scalar.{Scalar}
 use Rattle.model_syntax.specs.declared.program.Len.{Len}
 use Rattle.model_syntax.specs.declared.program.Param.{Param}
-use Rattle.model_syntax.specs.declared.scope.NameType.TheVariants.{Scalar as One, Array as Many}
 use Rattle.model_syntax.specs.Names.{Name, same, listed}
 use Rattle.model_syntax.specs.Scope.{Scope, look_up}
 use Rattle.sym_heap.specs.declared.parts.Clause.{Clause}
-use Rattle.sym_heap.specs.Context.{Context, scalar}
+use Rattle.sym_heap.specs.Context.{Context}
 use Rattle.sym_heap.specs.Ends.{of_param, taken_over, at_ends, standing, restored, with_ends}
-use Rattle.sym_heap.specs.Moves.{IsSameArray, Follow, ParamsOnce}
+use Rattle.sym_heap.specs.Moves.{IsSameArray, Follow}
 use Rattle.sym_heap.specs.Scoped.{IsScoped, IsArrayOf, IsLength, entry_names, EndsAgree}
 
 pub restored_scoped : (ps : List Param) (scope : Scope) (c end_ : Context) → IsScoped ps scope c → end_.entries ≡ c.entries → IsScoped ps scope (restored (standing c) end_)

@@ -1,13 +1,12 @@
 -- What the calls make of a context, whatever the state.
 use Rattle.std.proofs.Common.{◌≡◌, refl, sym, ◌∙◌, ap, subst, arith, ℕ, zero, suc, ◌+◌, ◌≤◌, Bool, true, false, not, ◌&&◌, List, [], ◌∷◌, ◌++◌, length, map, take, Option, Some, None, slice_get, nat_eq, nat_lt}
-use Rattle.std.specs.List.{find}
 use Rattle.std.proofs.lemmas.Bool.{ltb-true}
 use Rattle.side_certs.specs.LinearForm.{LinearForm}
 use Rattle.model_syntax.specs.Names.{Name, same, listed}
 use Rattle.sym_heap.specs.declared.parts.Held.{Held}
 use Rattle.sym_heap.specs.declared.parts.Clause.{Clause}
 use Rattle.sym_heap.specs.Context.{Context, scalar, has, is_free, is_clause, change_first, with_top, with_scalar, with_fact, with_clause, renamed, written, back_to}
-use Rattle.sym_heap.specs.Ends.{is_of, of_param, greater, taken_over, at_ends, standing, restored, with_ends}
+use Rattle.sym_heap.specs.Ends.{of_param, greater, taken_over, at_ends, standing, restored, with_ends}
 use Rattle.sym_heap.specs.Fits.{IsConsistent}
 use Rattle.sym_heap.specs.Moves.{IsSameArray, Follow, local_of, Moves, Began, ParamsOnce}
 use Rattle.sym_heap.proofs.Named.{find_put}

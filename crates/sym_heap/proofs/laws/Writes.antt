@@ -1,5 +1,5 @@
 -- A context fits after a write to an array as it did before.
-use Rattle.std.proofs.Common.{◌≡◌, refl, sym, ◌∙◌, ap, subst, arith, ℕ, zero, suc, ◌+◌, ◌*◌, ◌%◌, ◌^◌, ◌<◌, ◌≤◌, Bool, true, false, List, [], ◌∷◌, ◌++◌, length, set, Option, Some, None, pos, slice_get, length-append, mul-le-mul_left}
+use Rattle.std.proofs.Common.{◌≡◌, refl, sym, ◌∙◌, ap, subst, arith, ℕ, suc, ◌+◌, ◌*◌, ◌%◌, ◌^◌, ◌<◌, ◌≤◌, Bool, true, false, List, [], ◌∷◌, ◌++◌, length, Option, Some, None, pos, slice_get, length-append, mul-le-mul_left}
 use Rattle.std.specs.FinMap.{get}
 use Rattle.std.specs.Int.{w32, to_le_bytes}
 use Rattle.std.specs.List.{find, flat_map}
@@ -7,18 +7,19 @@ use Rattle.std.proofs.lemmas.List.{length-set}
 use Rattle.std.proofs.lemmas.Option.{slice_get_within}
 use Rattle.rup_base.specs.declared.arg.Arg.{Arg}
 use Rattle.rup_base.specs.declared.arg.Arg.TheVariants as arg
+use Rattle.side_certs.specs.LinearForm.{LinearForm}
 use Rattle.rv_memory.specs.Ranges.{Bytes, Stands, Range, Within, Apart}
 use Rattle.model_syntax.specs.Environment.{Env, value_of, elements, with_element}
 use Rattle.model_syntax.specs.Names.{Name, same}
-use Rattle.model_syntax.proofs.laws.Bindings.{same_is, same_self}
+use Rattle.model_syntax.proofs.laws.Bindings.{same_is}
 use Rattle.sym_heap.specs.declared.parts.Held.{Held}
 use Rattle.sym_heap.specs.declared.parts.Clause.{Clause}
-use Rattle.sym_heap.specs.Context.{Context, scalar, own, is_clause, change_first, with_clause, written}
+use Rattle.sym_heap.specs.Context.{Context, scalar, own, has, is_clause, change_first, with_clause, written}
 use Rattle.sym_heap.specs.Elements.{element_bytes, element_top}
-use Rattle.sym_heap.specs.Fits.{Call, Locals, IsArray, array_bytes, range_of, ScalarFits, ClauseFits, FitsBy, ArgsHeld}
+use Rattle.sym_heap.specs.Fits.{Call, Locals, IsArray, array_bytes, range_of, ScalarFits, ClauseFits, FitsBy, ArgsHeld, Known, IsConsistent}
 use Rattle.sym_heap.specs.Writes.{element_range, IsWritten}
-use Rattle.sym_heap.proofs.Fitting.{Somewhere, somewhere}
-use Rattle.sym_heap.proofs.Named.{unlike}
+use Rattle.sym_heap.proofs.Fitting.{somewhere}
+use Rattle.sym_heap.proofs.Named.{unlike, ChangedAt, here as changed, there as unchanged, changed_at}
 use Rattle.sym_heap.proofs.laws.Elements.{element_written}
 
 -- Lengths.
@@ -171,6 +172,69 @@ counted a b (k ∷ ks) l at = by (same k.name a) refl (same k.name b) refl (same
     on : Counted a b ks l → Counted a b (k ∷ ks) l
     on (here m found same_name new) = here m (rw q found) same_name new
     on (there found other) = there (rw q found) other
+
+-- a clause after a write was counted is one of before, but for the writes
+record Was (ks : List Clause) (i : ℕ) (k : Clause) : Type 0 where
+  pub clause : Clause
+  pub at : slice_get ks i ≡ Some clause
+  pub name : k.name ≡ clause.name
+  pub param : k.param ≡ clause.param
+  pub pointer : k.pointer ≡ clause.pointer
+  pub length_same : k.length ≡ clause.length
+  pub length_local : k.length_local ≡ clause.length_local
+
+was : (a : Name) (ks : List Clause) (i : ℕ) (k : Clause) → slice_get (change_first (is_clause a) written ks) i ≡ Some k → Was ks i k
+was a ks i k at = by (changed_at (λ (z : Clause). z.name) a written ks i k at) where
+  by : ChangedAt (λ (z : Clause). z.name) a written ks i k → Was ks i k
+  by (changed l found named place is) = record {
+    clause = l;
+    at = found;
+    name = ap (λ (z : Clause). z.name) is;
+    param = ap (λ (z : Clause). z.param) is;
+    pointer = ap (λ (z : Clause). z.pointer) is;
+    length_same = ap (λ (z : Clause). z.length) is;
+    length_local = ap (λ (z : Clause). z.length_local) is;
+  }
+  by (unchanged found) = record { clause = k; at = found; name = refl; param = refl; pointer = refl; length_same = refl; length_local = refl }
+
+counted_consistent : (c : Context) (a : Name) → IsConsistent c → IsConsistent (with_clause a written c)
+counted_consistent c a s = record {
+  entries_known = s.entries_known;
+  scalars_known = s.scalars_known;
+  lengths_known = λ i k at. (let w = was a c.clauses i k at in subst (λ (f : LinearForm). Known (length c.tops) f) (sym w.length_same) (s.lengths_known i w.clause w.at));
+  facts_known = s.facts_known;
+  scalars_apart = s.scalars_apart;
+  clauses_apart = λ i j k l at_i at_j differ. (
+      let v = was a c.clauses i k at_i in
+      let w = was a c.clauses j l at_j in
+      let apart = s.clauses_apart i j v.clause w.clause v.at w.at differ in
+      (ap (λ x. same x l.name) v.name ∙ ap (same v.clause.name) w.name ∙ apart.0, λ e. apart.1 (sym v.param ∙ e ∙ w.param)));
+  pointers_reserved = λ i k at. (let w = was a c.clauses i k at in ap (λ p. has p c.reserved) w.pointer ∙ s.pointers_reserved i w.clause w.at);
+  lengths_reserved = λ i k l at is. (let w = was a c.clauses i k at in s.lengths_reserved i w.clause l w.at (sym w.length_local ∙ is));
+}
+
+pub counted_fits : (call : Call) (numbers : ℕ → ℕ) (c : Context) (a : Name) (env : Env) (mem : Bytes) (locals : Locals) → FitsBy call numbers c env mem locals
+    → FitsBy call numbers (with_clause a written c) env mem locals
+counted_fits call numbers c a env mem locals fits = record {
+  consistent = counted_consistent c a fits.consistent;
+  entry_count = fits.entry_count;
+  entries = fits.entries;
+  holds = fits.holds;
+  scalars = fits.scalars;
+  clauses = λ b l at. clause b l (counted a b c.clauses l at);
+  ranges = λ i j k l at_i at_j differ. (
+      let v = was a c.clauses i k at_i in
+      let w = was a c.clauses j l at_j in
+      subst (λ p. Apart (range_of call p) (range_of call l.param)) (sym v.param)
+      (subst (λ p. Apart (range_of call v.clause.param) (range_of call p)) (sym w.param)
+      (fits.ranges i j v.clause w.clause v.at w.at differ)));
+} where
+  clause : (b : Name) (l : Clause) → Counted a b c.clauses l → ClauseFits call numbers l (value_of env b) mem locals
+  clause b l (here k found same_name new) =
+      let f = fits.clauses b k found in
+      subst (λ (z : Clause). ClauseFits call numbers z (value_of env b) mem locals) (sym new)
+      (record { array = f.array; form = f.form; length_local = f.length_local; parameter = f.parameter; pointer = f.pointer; stands = f.stands; few = f.few; aligned = f.aligned; ends = f.ends })
+  clause b l (there found other) = fits.clauses b l found
 
 pub written_held : (args : List Arg) (c : Context) (a : Name) (env after_env : Env) → ArgsHeld args c env → ((b : Name) → same a b ≡ false → value_of after_env b ≡ value_of env b)
     → ArgsHeld args (with_clause a written c) after_env

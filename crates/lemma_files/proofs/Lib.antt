@@ -1,0 +1,2 @@
+pub mod AsModel
+pub mod Nth

@@ -1,2 +1,4 @@
 pub mod AsModel
+pub mod Exact
 pub mod Nth
+pub mod SameExpr

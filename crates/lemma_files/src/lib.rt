@@ -5,6 +5,7 @@
 //! in the order of the text.
 #![tactic(auto)]
 
+mod exactness;
 mod lemmas;
 mod matching;
 mod parts;
@@ -16,6 +17,7 @@ mod steps;
 mod terms;
 mod words;
 
+pub use exactness::same_expressions_are_equal;
 pub use matching::matches;
 pub use reader::read_lemmas;
 pub use same::same_expr;

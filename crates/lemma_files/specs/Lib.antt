@@ -6,4 +6,5 @@ pub mod Patterns
 pub mod Reading
 pub mod Same
 pub mod Steps
+pub mod Substitution
 pub mod Words

@@ -17,7 +17,7 @@ mod steps;
 mod terms;
 mod words;
 
-pub use exactness::same_expressions_are_equal;
+pub use exactness::{matches_are_instances, same_expressions_are_equal};
 pub use matching::matches;
 pub use reader::read_lemmas;
 pub use same::same_expr;

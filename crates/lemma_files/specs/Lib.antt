@@ -1,4 +1,10 @@
 pub mod Fits
+pub mod Lemmas
 pub mod Matching
+pub mod Parts
+pub mod Patterns
+pub mod Reading
 pub mod Same
 pub mod Steps
+pub mod Substitution
+pub mod Words

@@ -1,0 +1,5 @@
+pub mod AsModel
+pub mod Exact
+pub mod Instances
+pub mod Nth
+pub mod SameExpr

@@ -1,0 +1,10 @@
+use Rattle.std.proofs.Common.{◌≡◌, map, drop, ◌++◌, Ok}
+use Rattle.model_reader.specs.Parts.{◌>>=◌}
+use Rattle.lemma_files.specs.Parts.{each}
+use Rattle.lemma_files.specs.Lemmas.{lemma}
+use Rattle.lemma_files.specs.Reading.{part}
+use Rattle.lemma_files.proofs.lemmas.each_lemma.Given as goal
+
+abbrev pub invariant-loop-form : goal.invariant-loop-form
+invariant-loop-form l =
+    (each lemma (map part (drop l.form-index l.forms)) >>= λ more. Ok (l.lemmas ++ more)) ≡ each lemma (map part l.forms)

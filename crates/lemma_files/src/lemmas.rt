@@ -5,9 +5,7 @@ ghost use Rattle.lemma_files.specs.Parts as parts;
 ghost use Rattle.lemma_files.specs.Lemmas as spec;
 ghost use Rattle.lemma_files.specs.Reading.{part};
 
-use crate::parts::{
-    behind, behind_two, end, form_at, headed, kids_of, place_of, text_of, up_to,
-};
+use crate::parts::{behind, behind_two, end, form_at, headed, kids_of, place_of, text_of, up_to};
 use crate::patterns::read_pattern;
 use crate::terms::{Lemma, Shape};
 use crate::words::is;

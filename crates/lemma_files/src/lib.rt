@@ -24,3 +24,6 @@ pub use same::same_expr;
 pub use shapes::fits;
 pub use steps::expand;
 pub use terms::{Lemma, Pattern, Shape};
+
+#[cfg(test)]
+mod tests;

@@ -10,8 +10,10 @@ use std::test::Fail as Failed;
 fn a_file_is_read(rt: HostRuntime) -> Result<(), Failed> {
     let text = b"(lemmas (rewrite r ?e (steps 9)) (note n (if) (le 0 x)))";
     let lemmas = read_lemmas(rt.alloc(), 1, text)?;
-    let [Lemma::Rewrite(_, Pattern::Hole(hole), steps), Lemma::Note(_, Shape::If, facts)] =
-        lemmas.as_slice()
+    let [
+        Lemma::Rewrite(_, Pattern::Hole(hole), steps),
+        Lemma::Note(_, Shape::If, facts),
+    ] = lemmas.as_slice()
     else {
         return Err("a rewriting and a note".into());
     };

@@ -30,3 +30,6 @@ fn judge_all(rt: &HostRuntime) -> io::Result<()> {
     }
     tally.print(rt)
 }
+
+#[cfg(test)]
+mod tests;

@@ -1,0 +1,57 @@
+//! The top call answers where memory is left: each command on the sum of two words, as cases of this program.
+use crate::answer::found_by;
+use crate::files::Held;
+use row_cases::read_case;
+use rup_base::List;
+use rup_io::MemFiles;
+use std::alloc::Global;
+use std::test::Fail;
+
+const REPLAY: &str = "an image is written
+words replay m d
+file m text (model sum (params (x word) (y word)) (require) (do (let z (add x y))) (ret z))
+file d text {\"block\":1,\"deriv\":1,\"model\":\"sum\",\"nodes\":[[\"s-let\",[2],[]],[\"e-op\",[],[]],[\"e-var\",[],[]],[\"e-var\",[],[]]]}
+keep image
+= status 0
+= out 1 kept, 160 bytes
+= notes 1 replay: nodes 4 locals 3 depth 2 weight 59 bound 59\\n";
+
+const RUN: &str = "the image is run
+words run image 40 2
+= status 0
+= out 1 0000002a\\n
+= notes 1 run: returned in 16 steps, bound 59\\n";
+
+const EVAL: &str = "the model is evaluated
+words eval m 40 2
+file m text (model sum (params (x word) (y word)) (require) (do (let z (add x y))) (ret z))
+= status 0
+= out 1 0000002a\\n";
+
+/// Whether a case has its wanted answer, where these files are held.
+fn holds(alloc: Global, held: &mut Held, text: &str) -> Result<bool, Fail> {
+    let mut disk = MemFiles::new(List::new(alloc), List::new(alloc));
+    let Some(case) = read_case(alloc, text)? else {
+        return Ok(false);
+    };
+    match found_by(alloc, &mut disk, held, &case) {
+        Ok(found) => Ok(found.as_str() == case.wanted.as_str()),
+        Err(_) => Ok(false),
+    }
+}
+
+#[test]
+fn replay_and_run_answer(rt: HostRuntime) -> Result<(), Fail> {
+    let mut held = Vec::new(rt.alloc());
+    let is_replayed = holds(rt.alloc(), &mut held, REPLAY)?;
+    let is_run = holds(rt.alloc(), &mut held, RUN)?;
+    assert_eq!(rt; (is_replayed, is_run), (true, true));
+    Ok(())
+}
+
+#[test]
+fn eval_answers(rt: HostRuntime) -> Result<(), Fail> {
+    let mut held = Vec::new(rt.alloc());
+    assert_eq!(rt; holds(rt.alloc(), &mut held, EVAL)?, true);
+    Ok(())
+}

@@ -3,3 +3,4 @@ pub mod Named
 pub mod Shape
 pub mod Spelling
 pub mod Weight
+pub mod Tables

@@ -14,7 +14,7 @@ use Rattle.flat_lang.specs.declared.flat.FStmt.{FStmt, FStmt-F, map-FStmt, fold-
 use Rattle.flat_lang.specs.declared.flat.FStmt.TheOpen as o
 use Rattle.flat_lang.specs.declared.flat.FStmt.TheVariants as f
 use Rattle.flatten.specs.Code.{ExprCode, expr_code, expr_step, CmdCode, place}
-use Rattle.flatten.specs.Tables.{expr_tables, expr_tables_step}
+use Rattle.bed_syntax.specs.Tables.{expr_tables, expr_tables_step}
 
 code_names_joined : (a b : List FStmt) → code_names (a ++ b) ≡ code_names a ++ code_names b
 code_names_joined [] b = refl

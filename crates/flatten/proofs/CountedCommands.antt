@@ -12,7 +12,7 @@ use Rattle.flat_lang.specs.declared.flat.FStmt.{FStmt}
 use Rattle.flat_lang.specs.declared.flat.FStmt.TheOpen as o
 use Rattle.flat_lang.specs.declared.flat.FStmt.TheVariants as f
 use Rattle.flatten.specs.Code.{expr_code, CmdCode, cmd_code, cmd_step, in_turn, place}
-use Rattle.flatten.specs.Tables.{expr_tables, cmd_tables, cmd_tables_step}
+use Rattle.bed_syntax.specs.Tables.{expr_tables, cmd_tables, cmd_tables_step}
 use Rattle.flatten.proofs.Counted.{CmdCounts, none_counts, both_count, leaf_counts, if_counts, while_counts, then_one, recounted, expr_same}
 
 module _ (w : Weights) (same : w.variable ≡ w.set) (names : List ℕ) where

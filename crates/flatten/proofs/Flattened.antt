@@ -12,7 +12,7 @@ use Rattle.flat_lang.specs.Whole.{IsWhole}
 use Rattle.flat_lang.specs.declared.flat.Flat.{Flat}
 use Rattle.flatten.specs.Code.{place, flat_of}
 use Rattle.flatten.specs.Locals.{numbers, locals_of}
-use Rattle.flatten.specs.Tables.{cmd_tables}
+use Rattle.bed_syntax.specs.Tables.{cmd_tables}
 use Rattle.flatten.proofs.CountedCommands.{CmdSame, cmd_same}
 use Rattle.flatten.proofs.Growth.{cmd_grows}
 use Rattle.flatten.proofs.Kept.{arguments_first}

@@ -9,7 +9,7 @@ ghost use Rattle.flat_lang.specs.Whole.{IsWhole};
 ghost use Rattle.flatten.specs.Code.{place, expr_code, cmd_code, in_turn, flat_of};
 ghost use Rattle.flatten.specs.Keeps.{Keeps};
 ghost use Rattle.flatten.specs.Locals.{locals_of};
-ghost use Rattle.flatten.specs.Tables.{cmd_tables};
+ghost use Rattle.bed_syntax.specs.Tables.{cmd_tables};
 
 use crate::depth::depth_of_cmd;
 use crate::names::{arguments, note_all, note_cmd, place_of};

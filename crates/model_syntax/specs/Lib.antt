@@ -12,3 +12,4 @@ pub mod Value
 pub mod Formed
 pub mod Kinds
 pub mod Sound
+pub mod Entries

@@ -21,7 +21,7 @@ use Rattle.bed_syntax.specs.declared.expression.BExpr.TheVariants as b
 use Rattle.bed_syntax.specs.declared.command.Cmd.{fold-roll-Cmd}
 use Rattle.bed_syntax.specs.declared.command.Cmd.TheOpen as c
 use Rattle.bed_syntax.specs.declared.command.Cmd.TheVariants as cmd
-use Rattle.flatten.specs.Tables.{expr_tables, expr_tables_step, cmd_tables, cmd_tables_step}
+use Rattle.bed_syntax.specs.Tables.{expr_tables, expr_tables_step, cmd_tables, cmd_tables_step}
 use Rattle.plain_rules.specs.Context.{Context, look, bind, is_free, start}
 use Rattle.plain_rules.specs.Derived.{derived, checked_of}
 use Rattle.plain_rules.specs.Row.{ExprRow, expr_row, expr_row_step, literal_row, variable_row, local_row, operation_row, operands_row, is_literal, is_variable, is_operation, is_bare, are_none, is_let, let_args, let_kids, let_row, StmtRow, stmt_row, stmt_row_step, block_row}

@@ -7,7 +7,7 @@ ghost use Rattle.bed_syntax.specs.Shape.{cmd_depth};
 ghost use Rattle.plain_rules.specs.Computes.{Computes, Small, locals_of};
 ghost use Rattle.plain_rules.specs.Derived.{derived, weight_of};
 ghost use Rattle.plain_rules.specs.Plain.{Plain};
-ghost use Rattle.flatten.specs.Tables.{cmd_tables};
+ghost use Rattle.bed_syntax.specs.Tables.{cmd_tables};
 ghost use Rattle.rv_code.specs.Word.{word_of};
 ghost use Rattle.rv_emit.specs.Names.{named_in};
 ghost use Rattle.rv_emit.specs.Tables.{text_of};

@@ -15,7 +15,8 @@ use Rattle.rv_machine.specs.State.{State}
 use Rattle.rv_emit.specs.Ready as code
 use Rattle.run_setup.specs.Ready.{Ready, image_range}
 use Rattle.rv_memory.specs.Ranges.{Within, Stands}
-use Rattle.run_setup.specs.Good.{HasResults, IsUnderWay, Returns, Good, requirement, result_place}
+use Rattle.model_syntax.specs.Entries.{result_place}
+use Rattle.run_setup.specs.Good.{HasResults, IsUnderWay, Returns, Good, requirement}
 use Rattle.plain_image.specs.Written.{bytes_of}
 use Rattle.plain_image.proofs.Parameters.{Shape, in_registers}
 use Rattle.plain_image.proofs.Around.{image_of, entry_is, entry_whole, spelled_code}

@@ -34,7 +34,7 @@ use Rattle.model_syntax.proofs.laws.Arrays.{and_parts}
 use Rattle.model_syntax.proofs.laws.Bindings.{same_is, same_self, value_here, value_else, up_else, up_here}
 use Rattle.run_setup.specs.Arguments.{array_limit}
 use Rattle.run_setup.specs.Judging.{size_of, total_size}
-use Rattle.run_setup.specs.Good.{name_of, number_among, result_place}
+use Rattle.model_syntax.specs.Entries.{param_name, number_among, result_place}
 use Rattle.run_setup.proofs.Symbols.{among_before, among_last, among_none, none_before, declare_is, registers_is, AllFit}
 use Rattle.run_setup.proofs.Meeting.{fit_all, counts_ok}
 use Rattle.run_setup.proofs.Shapes.{type_same, HasShape, array_of, len_of, Shaped, body_keeps}
@@ -255,7 +255,7 @@ array_begun c end env names args a u (Named x) ns v is fits small shape b =
 
 param_begun : (p : Param) (v : Arg) (c end : Scope) (env : Env) (names : List Name) (args : List Arg)
     → types.declare_param p c ≡ Ok end → model.fits p v ≡ true → size_of v ≤ array_limit → Begun c env names args
-    → Begun end (model.bind_argument p v env) (names ++ name_of p ∷ []) (args ++ v ∷ [])
+    → Begun end (model.bind_argument p v env) (names ++ param_name p ∷ []) (args ++ v ∷ [])
 param_begun (param.Word x) v c end env names args is fits small b =
     let parts = declare_is x (One Word) c end is in
     subst (λ (z : Scope). Begun z (put x v env) (names ++ x ∷ []) (args ++ v ∷ [])) parts.1 (scalar_begun c env names args x Word v parts.0 b)
@@ -276,7 +276,7 @@ param_begun (param.Words a (Named x)) (arg.Bytes ns) c end env names args is fit
 
 all_begun : (ps : List Param) (vs : List Arg) (c end : Scope) (env : Env) (names : List Name) (args : List Arg)
     → types.declare_params ps c ≡ Ok end → AllFit ps vs → total_size vs ≤ array_limit → Begun c env names args
-    → Begun end (model.start ps vs env) (names ++ map name_of ps) (args ++ vs)
+    → Begun end (model.start ps vs env) (names ++ map param_name ps) (args ++ vs)
 all_begun [] [] c end env names args is fit small b =
     let same_scope : c ≡ end = answer_is c end is in
     rw (append-nil names, append-nil args, ← same_scope) b
@@ -284,9 +284,9 @@ all_begun (p ∷ ps) (v ∷ vs) c end env names args is fit small b =
     let one = first_answered (types.declare_param p c) _ end is in
     let room = first_answered (types.registers one.0) _ end one.1.1 in
     let kept : one.0 ≡ room.0 = registers_is one.0 room.0 room.1.0 in
-    let here : Begun one.0 (model.bind_argument p v env) (names ++ name_of p ∷ []) (args ++ v ∷ []) = param_begun p v c one.0 env names args one.1.0 fit.0 (omega (arith, small)) b in
-    let all = all_begun ps vs room.0 end (model.bind_argument p v env) (names ++ name_of p ∷ []) (args ++ v ∷ []) room.1.1 fit.1 (omega (arith, small)) (rw (← kept) here) in
-    let names_are : names ++ (name_of p ∷ map name_of ps) ≡ (names ++ name_of p ∷ []) ++ map name_of ps = sym (append_assoc names (name_of p ∷ []) (map name_of ps)) in
+    let here : Begun one.0 (model.bind_argument p v env) (names ++ param_name p ∷ []) (args ++ v ∷ []) = param_begun p v c one.0 env names args one.1.0 fit.0 (omega (arith, small)) b in
+    let all = all_begun ps vs room.0 end (model.bind_argument p v env) (names ++ param_name p ∷ []) (args ++ v ∷ []) room.1.1 fit.1 (omega (arith, small)) (rw (← kept) here) in
+    let names_are : names ++ (param_name p ∷ map param_name ps) ≡ (names ++ param_name p ∷ []) ++ map param_name ps = sym (append_assoc names (param_name p ∷ []) (map param_name ps)) in
     let args_are : args ++ (v ∷ vs) ≡ (args ++ v ∷ []) ++ vs = sym (append_assoc args (v ∷ []) vs) in
     rw (names_are, args_are) all
 all_begun [] (v ∷ vs) c end env names args is fit small b = absurd fit
@@ -342,7 +342,7 @@ result_typed start c before a p is =
     record { type = end.0; length = end.1; at_end = end.2.1; at_start = begin.2.1 ∙ ap Some (sym begin.2.0 ∙ sym same ∙ end.2.0) }
 
 all_like : (start c : Scope) (begun env : Env) (ps : List Param) (args : List Arg) (k : ℕ) (before rets : List Ret)
-    → types.results start c k before rets ≡ Ok tt → Begun start begun (map name_of ps) args → Shaped (numbers begun) c env
+    → types.results start c k before rets ≡ Ok tt → Begun start begun (map param_name ps) args → Shaped (numbers begun) c env
     → AreLike (map (result_place ps) rets) args (map (model.result_of env) rets)
 all_like start c begun env ps args k before [] is b shaped = tt
 all_like start c begun env ps args k before (ret.Scalar x ∷ rets) is b shaped =
@@ -354,9 +354,9 @@ all_like start c begun env ps args k before (ret.Array a p ∷ rets) is b shaped
     let old = b.arrays p array.type array.length array.at_start in
     let new = shaped a array.type array.length array.at_end in
     let like : IsLike old.value new.value = shapes_like array.type (len_of (numbers begun) array.length) old.value new.value old.shape new.shape in
-    let placed : IsLike (get_or args (number_among p (map name_of ps)) (arg.Word 0)) new.value = subst (λ (v : Arg). IsLike v new.value) (sym old.given) like in
+    let placed : IsLike (get_or args (number_among p (map param_name ps)) (arg.Word 0)) new.value = subst (λ (v : Arg). IsLike v new.value) (sym old.given) like in
     let found : model.result_of env (ret.Array a p) ≡ new.value = ap (λ (o : Option Arg). elim o [ Some v ↦ v | None ↦ arg.Word 0 ]) new.held in
-    (subst (λ (v : Arg). IsLike (get_or args (number_among p (map name_of ps)) (arg.Word 0)) v) (sym found) placed, all_like start c begun env ps args (next k) (before ++ ret.Array a p ∷ []) rets one.1.1 b shaped)
+    (subst (λ (v : Arg). IsLike (get_or args (number_among p (map param_name ps)) (arg.Word 0)) v) (sym found) placed, all_like start c begun env ps args (next k) (before ++ ret.Array a p ∷ []) rets one.1.1 b shaped)
 
 pub results_like : (m : Model) (args : List Arg) → Well m → Meets m args → total_size args ≤ array_limit → AreLike (map (result_place m.params) m.rets) args (results m args)
 results_like m args well meets small =
@@ -368,7 +368,7 @@ results_like m args well meets small =
     let end = first_answered (types.in_turn (map types.stmt m.body) (0, start.0)) _ tt required.1.1 in
     let declared : types.declare_params m.params [] ≡ Ok start.0 = at_answered Params (types.declare_params m.params []) start.0 start.1.0 in
     let begun_env : Env = model.start m.params args [] in
-    let begun : Begun start.0 begun_env (map name_of m.params) args = all_begun m.params args [] start.0 [] [] [] declared all_fit small none_begun in
+    let begun : Begun start.0 begun_env (map param_name m.params) args = all_begun m.params args [] start.0 [] [] [] declared all_fit small none_begun in
     let shaped : Shaped (numbers begun_env) start.0 begun_env =
     λ x t k found. let g = begun.arrays x t k found in record { value = g.value; held = g.held; shape = g.shape } in
     let ended : Shaped (numbers begun_env) end.0.1 (model.end_of m args) = body_keeps (numbers begun_env) m.body 0 start.0 end.0 begun_env end.1.0 shaped in

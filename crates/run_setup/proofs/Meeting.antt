@@ -33,7 +33,8 @@ use Rattle.model_syntax.specs.declared.program.Model.{Model}
 use Rattle.model_syntax.proofs.laws.Answered.{first_answered, at_answered}
 use Rattle.run_setup.specs.Arguments.{array_limit}
 use Rattle.run_setup.specs.Judging.{total_size, by_symbol, holds, symbol_values, judged_count, judged_kinds, judged_size, judged_requirements, judged}
-use Rattle.run_setup.specs.Good.{entry_names, number_among, side, side_step, requirement}
+use Rattle.model_syntax.specs.Entries.{entry_names, number_among}
+use Rattle.run_setup.specs.Good.{side, side_step, requirement}
 use Rattle.run_setup.specs.Laws.{JudgedIsMet}
 use Rattle.run_setup.proofs.Forms.{sum_value, multiple_value, constant_value, symbol_value, difference_test}
 use Rattle.run_setup.proofs.Places.{and_ok, count_ok, size_ok}

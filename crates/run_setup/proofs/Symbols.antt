@@ -24,7 +24,7 @@ use Rattle.model_syntax.proofs.laws.Answered.{first_answered, answer_is}
 use Rattle.model_syntax.proofs.laws.Bindings.{same_is, value_here, value_else, up_else, up_here}
 use Rattle.run_setup.specs.Arguments.{array_limit}
 use Rattle.run_setup.specs.Judging.{size_of, total_size, symbols_of, symbol_values}
-use Rattle.run_setup.specs.Good.{entry_names, number_among}
+use Rattle.model_syntax.specs.Entries.{entry_names, number_among}
 
 -- the number of a name among more names
 pub among_before : (x y : Name) (names : List Name) → number_among x names < length names → number_among x (names ++ y ∷ []) ≡ number_among x names

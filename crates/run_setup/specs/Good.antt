@@ -12,14 +12,10 @@ use Rattle.image_layout.specs.Spelling.{registers_of}
 use Rattle.model_syntax.specs.declared.stmt.Lin.{Lin, Lin-F, fold-Lin}
 use Rattle.model_syntax.specs.declared.stmt.Lin.TheOpen as l
 use Rattle.model_syntax.specs.declared.stmt.Le.{Le}
-use Rattle.model_syntax.specs.declared.program.Len.{Len}
-use Rattle.model_syntax.specs.declared.program.Len.TheVariants.{Fixed, Named}
 use Rattle.model_syntax.specs.declared.program.Param.{Param}
-use Rattle.model_syntax.specs.declared.program.Param.TheVariants as param
-use Rattle.model_syntax.specs.declared.program.Ret.{Ret}
-use Rattle.model_syntax.specs.declared.program.Ret.TheVariants as ret
 use Rattle.model_syntax.specs.declared.program.Model.{Model}
-use Rattle.model_syntax.specs.Names.{Name, same}
+use Rattle.model_syntax.specs.Entries.{entry_names, number_among, result_place}
+use Rattle.model_syntax.specs.Names.{Name}
 use Rattle.model_syntax.specs.Types.{kind_of}
 use Rattle.model_syntax.specs.Value.{value}
 use Rattle.rv_machine.specs.State.{State, register}
@@ -30,25 +26,6 @@ use Rattle.run_setup.specs.Ready.{array_bytes, image_range, stack_range, array_r
 use Rattle.rv_memory.specs.Ranges.{Within, Stands}
 
 -- The parameters, requirements and results of a model, as an image has them.
-
-abbrev pub length_names : Len → List Name
-length_names (Fixed n) = []
-length_names (Named x) = x ∷ []
-
--- the entry symbols stand for words, bytes and named lengths, in the order of the parameters
-abbrev pub entry_names : List Param → List Name
-entry_names [] = []
-entry_names (param.Word x ∷ ps) = x ∷ entry_names ps
-entry_names (param.Byte x ∷ ps) = x ∷ entry_names ps
-entry_names (param.Bytes a (Fixed n) ∷ ps) = entry_names ps
-entry_names (param.Bytes a (Named x) ∷ ps) = x ∷ entry_names ps
-entry_names (param.Words a (Fixed n) ∷ ps) = entry_names ps
-entry_names (param.Words a (Named x) ∷ ps) = x ∷ entry_names ps
-
--- the number of a name among names that have it
-abbrev pub number_among : Name → List Name → ℕ
-number_among x [] = 0
-number_among x (y ∷ ys) = if same y x then 0 else 1 + number_among x ys
 
 -- a side of a requirement as a form over the entry symbols
 abbrev pub side_step : Lin-F (List Name → LinearForm) → List Name → LinearForm
@@ -63,17 +40,6 @@ side = fold-Lin (List Name → LinearForm) side_step
 -- the high side less the low one
 abbrev pub requirement : List Param → Le → LinearForm
 requirement ps r = minus (side r.high (entry_names ps)) (side r.low (entry_names ps))
-
-abbrev pub name_of : Param → Name
-name_of (param.Word x) = x
-name_of (param.Byte x) = x
-name_of (param.Bytes a n) = a
-name_of (param.Words a n) = a
-
--- a result is the number of its array parameter, or none for a scalar
-abbrev pub result_place : List Param → Ret → Option ℕ
-result_place ps (ret.Scalar x) = None
-result_place ps (ret.Array a p) = Some (number_among p (map name_of ps))
 
 -- The call.
 

@@ -17,10 +17,11 @@ use Rattle.model_syntax.specs.Names.{Name, same}
 use Rattle.model_syntax.specs.Scope.{Scope, look_up, bind}
 use Rattle.model_syntax.specs.Types as types
 use Rattle.model_syntax.proofs.laws.Bindings.{same_self}
+use Rattle.model_syntax.specs.Entries.{entry_names}
 use Rattle.sym_heap.specs.declared.parts.Held.{Held}
 use Rattle.sym_heap.specs.declared.parts.Clause.{Clause}
 use Rattle.sym_heap.specs.Context.{Context, held, is_scalar}
-use Rattle.sym_heap.specs.Scoped.{entry_names, element_size, IsLength, IsEntryLength, IsArrayOf, StartIsScoped}
+use Rattle.sym_heap.specs.Scoped.{element_size, IsLength, IsEntryLength, IsArrayOf, StartIsScoped}
 use Rattle.sym_heap.specs.Start.{empty, next_local, with_argument, clause, with_pointer, with_array, with_param, with_params, registers}
 use Rattle.sym_heap.proofs.Arriving.{at_end}
 use Rattle.sym_heap.proofs.Declared.{Answered, answered, declared, Declared, declared_parts, few_registers}

@@ -7,9 +7,9 @@ use Rattle.model_syntax.specs.declared.expr.Scalar.TheVariants.{Word, Byte, Flag
 use Rattle.model_syntax.specs.declared.program.Len.{Len}
 use Rattle.model_syntax.specs.declared.program.Len.TheVariants.{Fixed, Named}
 use Rattle.model_syntax.specs.declared.program.Param.{Param}
-use Rattle.model_syntax.specs.declared.program.Param.TheVariants as param
 use Rattle.model_syntax.specs.declared.program.Model.{Model}
 use Rattle.model_syntax.specs.declared.scope.NameType.TheVariants.{Scalar as One, Array as Many}
+use Rattle.model_syntax.specs.Entries.{entry_names}
 use Rattle.model_syntax.specs.Names.{Name, same, listed}
 use Rattle.model_syntax.specs.Scope.{Scope, look_up, bind, scalar_may_take}
 use Rattle.model_syntax.specs.Types as types
@@ -19,16 +19,6 @@ use Rattle.sym_heap.specs.Context.{Context, scalar, with_top, with_fact, with_re
 use Rattle.sym_heap.specs.Ends.{standing, restored, with_ends}
 use Rattle.sym_heap.specs.Moves.{Follow, ParamsOnce}
 use Rattle.sym_heap.specs.Start.{start}
-
--- the names whose values are the numbers of the entry symbols, in their order
-abbrev pub entry_names : List Param → List Name
-entry_names [] = []
-entry_names (param.Word x ∷ ps) = x ∷ entry_names ps
-entry_names (param.Byte x ∷ ps) = x ∷ entry_names ps
-entry_names (param.Bytes a (Fixed n) ∷ ps) = entry_names ps
-entry_names (param.Bytes a (Named x) ∷ ps) = x ∷ entry_names ps
-entry_names (param.Words a (Fixed n) ∷ ps) = entry_names ps
-entry_names (param.Words a (Named x) ∷ ps) = x ∷ entry_names ps
 
 -- the bytes of an element: arrays are of bytes or words
 abbrev pub element_size : Scalar → ℕ

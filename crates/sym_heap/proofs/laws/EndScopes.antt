@@ -5,11 +5,12 @@ use Rattle.model_syntax.specs.declared.program.Len.{Len}
 use Rattle.model_syntax.specs.declared.program.Param.{Param}
 use Rattle.model_syntax.specs.Names.{Name, same, listed}
 use Rattle.model_syntax.specs.Scope.{Scope, look_up}
+use Rattle.model_syntax.specs.Entries.{entry_names}
 use Rattle.sym_heap.specs.declared.parts.Clause.{Clause}
 use Rattle.sym_heap.specs.Context.{Context}
 use Rattle.sym_heap.specs.Ends.{of_param, taken_over, at_ends, standing, restored, with_ends}
 use Rattle.sym_heap.specs.Moves.{IsSameArray, Follow}
-use Rattle.sym_heap.specs.Scoped.{IsScoped, IsArrayOf, IsLength, entry_names, EndsAgree}
+use Rattle.sym_heap.specs.Scoped.{IsScoped, IsArrayOf, IsLength, EndsAgree}
 
 pub restored_scoped : (ps : List Param) (scope : Scope) (c end_ : Context) → IsScoped ps scope c → end_.entries ≡ c.entries → IsScoped ps scope (restored (standing c) end_)
 restored_scoped ps scope c end_ s entries = record {

@@ -11,10 +11,11 @@ use Rattle.model_syntax.specs.declared.scope.NameType.TheVariants.{Scalar as One
 use Rattle.model_syntax.specs.Names.{Name, same}
 use Rattle.model_syntax.specs.Scope.{Scope, look_up, bind, scalar_may_take}
 use Rattle.model_syntax.proofs.laws.Bindings.{same_self, up_here, up_else}
+use Rattle.model_syntax.specs.Entries.{entry_names}
 use Rattle.sym_heap.specs.declared.parts.Held.{Held}
 use Rattle.sym_heap.specs.declared.parts.Clause.{Clause}
 use Rattle.sym_heap.specs.Context.{Context, is_clause, scalar, renamed, written, with_top, with_scalar, with_fact, with_reserved, with_clause, without_clause, back_to}
-use Rattle.sym_heap.specs.Scoped.{IsScoped, IsArrayOf, entry_names}
+use Rattle.sym_heap.specs.Scoped.{IsScoped, IsArrayOf}
 use Rattle.sym_heap.proofs.Named.{differs, apart_back, PutAt, put_at, put_once, find_put, ChangedAt, here, there, changed_at, skip, left_at, skip_apart}
 
 pub fresh_scoped : (ps : List Param) (scope : Scope) (c : Context) (top : ℕ) → IsScoped ps scope c → IsScoped ps scope (with_top top c)

@@ -6,7 +6,7 @@ use Rattle.flat_lang.specs.Count.{code_names, code_weight}
 use Rattle.flat_lang.specs.Whole.{IsWhole}
 use Rattle.flatten.specs.Code.{flat_of}
 use Rattle.flatten.specs.Keeps.{Keeps}
-use Rattle.flatten.specs.Tables.{cmd_tables}
+use Rattle.bed_syntax.specs.Tables.{cmd_tables}
 use Rattle.flatten.proofs.Flattened.{for_ok, weighs, named, listed, whole}
 use Rattle.flatten.proofs.Kept.{keeps}
 use Rattle.flatten.proofs.flattening.flatten.Goals as goal

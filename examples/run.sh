@@ -42,7 +42,7 @@ for folder in "$top"/examples/*/; do
       compare "$name: run ${arguments[*]}" "$wanted" "$(results run "$image" ${arguments[@]+"${arguments[@]}"} || true)"
     fi
     compare "$name: eval ${arguments[*]}" "$wanted" "$(results eval "$model" ${arguments[@]+"${arguments[@]}"} || true)"
-  done <"$folder/cases"
+  done < <(if [ -e "$folder/cases" ]; then cat "$folder/cases"; fi)
   if [ -x "$folder/check" ]; then
     status=0
     "$folder/check" "$rup" || status=$?

@@ -4,13 +4,17 @@
 #![tactic(auto)]
 
 mod command;
+mod depth;
 mod expression;
+mod locals;
 mod operation;
 mod printer;
 mod weights;
 
 pub use command::Cmd;
+pub use depth::depth_of_cmd;
 pub use expression::BExpr;
+pub use locals::locals_of_cmd;
 pub use operation::{BOp, Size};
 pub use printer::print_cmd;
 pub use weights::Weights;

@@ -11,7 +11,7 @@ use Rattle.flat_lang.specs.Count.{code_names, code_weight, code_size}
 use Rattle.flat_lang.specs.Whole.{IsWhole}
 use Rattle.flat_lang.specs.declared.flat.Flat.{Flat}
 use Rattle.flatten.specs.Code.{place, flat_of}
-use Rattle.flatten.specs.Locals.{numbers, locals_of}
+use Rattle.bed_syntax.specs.Shape.{numbers, locals_of}
 use Rattle.bed_syntax.specs.Tables.{cmd_tables}
 use Rattle.flatten.proofs.CountedCommands.{CmdSame, cmd_same}
 use Rattle.flatten.proofs.Growth.{cmd_grows}

@@ -7,7 +7,6 @@ mod Goes
 mod Growth
 mod Kept
 mod Loops
-mod Numbers
 mod Outcomes
 mod Places
 mod Readings

@@ -4,7 +4,7 @@ use Rattle.std.proofs.lemmas.Bool.{cases_lt}
 use Rattle.std.proofs.lemmas.Bool.Decides.{eqb_tells}
 use Rattle.bed_syntax.specs.Shape.{is_known, noted, all_noted}
 use Rattle.flatten.specs.Code.{place}
-use Rattle.flatten.specs.Locals.{numbers}
+use Rattle.bed_syntax.specs.Shape.{numbers}
 
 abbrev pub Known : List ℕ → ℕ → Type 0
 Known ns x = place ns x < length ns

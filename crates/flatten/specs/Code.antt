@@ -9,7 +9,7 @@ use Rattle.bed_syntax.specs.declared.command.Cmd.TheOpen as c
 use Rattle.flat_lang.specs.declared.flat.FStmt.{FStmt}
 use Rattle.flat_lang.specs.declared.flat.FStmt.TheVariants as f
 use Rattle.flat_lang.specs.declared.flat.Flat.{Flat}
-use Rattle.flatten.specs.Locals.{locals_of}
+use Rattle.bed_syntax.specs.Shape.{locals_of}
 
 -- the place of a local in a list, which is the list's length where it is not there
 abbrev pub place : List ℕ → ℕ → ℕ

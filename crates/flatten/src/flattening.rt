@@ -1,19 +1,17 @@
 //! The pass itself.
 ghost use Rattle.std.specs.Prelude.{◌≡◌, ◌+◌, ◌++◌, ◌^◌, ◌<◌, ◌≤◌, OnOk, IfOk, length, map, sum};
 ghost use Rattle.bed_syntax.specs.Named.{cmd_names};
-ghost use Rattle.bed_syntax.specs.Shape.{expr_size, cmd_size, cmd_depth};
+ghost use Rattle.bed_syntax.specs.Shape.{expr_size, cmd_size, cmd_depth, locals_of};
 ghost use Rattle.bed_syntax.specs.Weight.{cmd_weight};
 ghost use Rattle.bed_syntax.specs.declared.weights.Weights.{Weights};
 ghost use Rattle.flat_lang.specs.Count.{code_names, code_weight};
 ghost use Rattle.flat_lang.specs.Whole.{IsWhole};
 ghost use Rattle.flatten.specs.Code.{place, expr_code, cmd_code, in_turn, flat_of};
 ghost use Rattle.flatten.specs.Keeps.{Keeps};
-ghost use Rattle.flatten.specs.Locals.{locals_of};
 ghost use Rattle.bed_syntax.specs.Tables.{cmd_tables};
 
-use crate::depth::depth_of_cmd;
-use crate::names::{arguments, note_all, note_cmd, place_of};
-use bed_syntax::{BExpr, Cmd};
+use crate::names::place_of;
+use bed_syntax::{BExpr, Cmd, depth_of_cmd, locals_of_cmd};
 use flat_lang::{FStmt, Flat};
 use rup_base::{List, NoMemory, Text};
 use std::alloc::Global;
@@ -43,9 +41,7 @@ fn code_of(alloc: Global, c: &Cmd, args: u32, rets: &[u32]) -> Result<Flat, NoMe
     requires few_rets { length rets.now ≤ 2 }
     ensures { IfOk result (λ flat. flat ≡ flat_of c.now args rets.now) }
 {
-    let mut names = arguments(alloc, args)?;
-    note_cmd(&mut names, c)?;
-    note_all(&mut names, rets)?;
+    let names = locals_of_cmd(alloc, c, args, rets)?;
     let mut body = List::new(alloc);
     let mut tables = List::new(alloc);
     flatten_cmd(alloc, names.as_slice(), c, &mut body, &mut tables)?;

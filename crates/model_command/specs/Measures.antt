@@ -1,29 +1,20 @@
 -- What the numbers beside a command are, and the limits that the passes below ask for.
-use Rattle.std.specs.Prelude.{◌≡◌, ℕ, zero, suc, ◌+◌, ◌^◌, ◌<◌, ◌≤◌, List, [], ◌∷◌, ◌++◌, length, map, sum}
+use Rattle.std.specs.Prelude.{◌≡◌, ◌+◌, ◌^◌, ◌<◌, ◌≤◌, length, map, sum}
 use Rattle.cost_poly.specs.Polynomial.{BoundFrom}
 use Rattle.model_syntax.specs.declared.program.Model.{Model}
 use Rattle.model_syntax.specs.Entries.{entry_names}
 use Rattle.sym_heap.specs.Start.{registers}
-use Rattle.bed_syntax.specs.Shape.{cmd_size, cmd_depth, all_noted, cmd_locals}
+use Rattle.bed_syntax.specs.Shape.{cmd_size, cmd_depth, locals_of}
 use Rattle.bed_syntax.specs.Tables.{cmd_tables}
 use Rattle.bed_syntax.specs.Weight.{cmd_weight}
 use Rattle.bed_syntax.specs.declared.weights.Weights.{Weights}
 use Rattle.model_command.specs.declared.command.ModelCommand.{ModelCommand}
 
--- the numbers below one
-abbrev pub numbers : ℕ → List ℕ
-numbers zero = []
-numbers (suc n) = numbers n ++ n ∷ []
-
--- the distinct locals: those of the arguments, of the command and of the results
-abbrev pub locals_of : ModelCommand → List ℕ
-locals_of c = all_noted c.rets (cmd_locals c.command (numbers c.args))
-
 -- the numbers beside the command are its own
 pub record IsMeasured (w : Weights) (m : Model) (c : ModelCommand) : Type 0 where
   pub args : c.args ≡ registers m.params
   pub weight : c.weight ≡ cmd_weight w c.command + w.entry
-  pub locals : c.locals ≡ length (locals_of c)
+  pub locals : c.locals ≡ length (locals_of c.command c.args c.rets)
   pub depth : c.depth ≡ cmd_depth c.command
   -- the bound is over the entry symbols
   pub symbols : BoundFrom 0 (length (entry_names m.params)) c.bound

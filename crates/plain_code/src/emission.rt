@@ -15,8 +15,9 @@ ghost use Rattle.plain_code.specs.Accepted.{checked_in};
 ghost use Rattle.plain_code.specs.Serves.{Serves};
 
 use crate::plain::PlainCode;
+use bed_syntax::depth_of_cmd;
 use deriv_tree::Derivation;
-use flatten::{depth_of_cmd, flatten};
+use flatten::flatten;
 use model_types::Typed;
 use plain_rules::{Checked, derive_plain};
 use reg_alloc::allocate;

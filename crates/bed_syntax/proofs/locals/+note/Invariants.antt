@@ -1,6 +1,6 @@
 use Rattle.std.proofs.Common.{◌≡◌, ◌+◌, ◌≤◌, drop, map, sum, length}
 use Rattle.bed_syntax.specs.Shape.{cmd_locals, cmd_size, in_turn}
-use Rattle.flatten.proofs.names.+note.Given as goal
+use Rattle.bed_syntax.proofs.locals.+note.Given as goal
 
 abbrev pub invariant-note_cmds-loop-c : goal.invariant-note_cmds-loop-c
 invariant-note_cmds-loop-c l =

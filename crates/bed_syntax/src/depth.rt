@@ -3,9 +3,10 @@ ghost use Rattle.std.specs.Prelude.{◌≡◌, ◌^◌, ◌<◌, ◌≤◌, map,
 ghost use Rattle.rup_base.specs.Gather.{greatest};
 ghost use Rattle.bed_syntax.specs.Shape.{expr_size, cmd_size, expr_depth, cmd_depth};
 
-use bed_syntax::{BExpr, Cmd};
+use crate::command::Cmd;
+use crate::expression::BExpr;
 
-pub fn depth_of_expr(e: &BExpr) -> u32
+fn depth_of_expr(e: &BExpr) -> u32
     requires { expr_size e.now < 2 ^ 32 }
     ensures depth { result ≡ expr_depth e.now }
     ensures bounded { result ≤ expr_size e.now }

@@ -1,7 +1,7 @@
 use Rattle.std.proofs.Common.{◌≡◌, ◌+◌, ◌≤◌, max, drop, map, sum}
 use Rattle.rup_base.specs.Gather.{greatest}
 use Rattle.bed_syntax.specs.Shape.{cmd_size, cmd_depth}
-use Rattle.flatten.proofs.depth.+depth.Given as goal
+use Rattle.bed_syntax.proofs.depth.+depth.Given as goal
 
 abbrev pub invariant-depth_of_cmds-loop-c : goal.invariant-depth_of_cmds-loop-c
 invariant-depth_of_cmds-loop-c l =

@@ -1,5 +1,7 @@
 pub mod Operation
 pub mod Named
 pub mod Shape
+pub mod Intervals
+pub mod Pressure
 pub mod Spelling
 pub mod Weight

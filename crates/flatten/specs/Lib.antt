@@ -1,4 +1,3 @@
 pub mod Code
 pub mod Keeps
-pub mod Locals
 pub mod Tables

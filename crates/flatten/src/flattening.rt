@@ -1,14 +1,13 @@
 //! The pass itself.
 ghost use Rattle.std.specs.Prelude.{◌≡◌, ◌+◌, ◌++◌, ◌^◌, ◌<◌, ◌≤◌, OnOk, IfOk, length, map, sum};
 ghost use Rattle.bed_syntax.specs.Named.{cmd_names};
-ghost use Rattle.bed_syntax.specs.Shape.{expr_size, cmd_size, cmd_depth};
+ghost use Rattle.bed_syntax.specs.Shape.{expr_size, cmd_size, cmd_depth, locals_of};
 ghost use Rattle.bed_syntax.specs.Weight.{cmd_weight};
 ghost use Rattle.bed_syntax.specs.declared.weights.Weights.{Weights};
 ghost use Rattle.flat_lang.specs.Count.{code_names, code_weight};
 ghost use Rattle.flat_lang.specs.Whole.{IsWhole};
 ghost use Rattle.flatten.specs.Code.{place, expr_code, cmd_code, in_turn, flat_of};
 ghost use Rattle.flatten.specs.Keeps.{Keeps};
-ghost use Rattle.flatten.specs.Locals.{locals_of};
 ghost use Rattle.flatten.specs.Tables.{cmd_tables};
 
 use crate::depth::depth_of_cmd;

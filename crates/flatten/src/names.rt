@@ -1,8 +1,7 @@
 //! The list of the locals of a command, in which each has its place.
 ghost use Rattle.std.specs.Prelude.{◌≡◌, ◌+◌, ◌^◌, ◌<◌, ◌≤◌, OnOk, IfOk, length, map, sum};
-ghost use Rattle.bed_syntax.specs.Shape.{expr_size, cmd_size, is_known, noted, all_noted, expr_locals, cmd_locals, in_turn};
+ghost use Rattle.bed_syntax.specs.Shape.{expr_size, cmd_size, is_known, noted, all_noted, expr_locals, cmd_locals, in_turn, numbers};
 ghost use Rattle.flatten.specs.Code.{place};
-ghost use Rattle.flatten.specs.Locals.{numbers};
 
 use bed_syntax::{BExpr, Cmd};
 use rup_base::{List, NoMemory};

@@ -1,5 +1,5 @@
 use Rattle.std.proofs.Common.{◌≡◌, length}
-use Rattle.flatten.specs.Locals.{numbers}
+use Rattle.bed_syntax.specs.Shape.{numbers}
 use Rattle.flatten.proofs.names.arguments.Given as goal
 
 abbrev pub invariant-loop-x : goal.invariant-loop-x

@@ -1,6 +1,8 @@
 pub mod Operation
 pub mod Named
 pub mod Shape
+pub mod Intervals
+pub mod Pressure
 pub mod Spelling
 pub mod Weight
 pub mod Tables

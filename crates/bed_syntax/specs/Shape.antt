@@ -1,5 +1,5 @@
 -- What is counted of a command: its nodes, its depth and its locals.
-use Rattle.std.specs.Prelude.{ℕ, suc, zero, ◌+◌, max, sum, Bool, false, ◌||◌, nat_eq, List, [], ◌∷◌, ◌++◌, if◌then◌else◌}
+use Rattle.std.specs.Prelude.{ℕ, zero, suc, ◌+◌, max, sum, Bool, false, ◌||◌, nat_eq, List, [], ◌∷◌, ◌++◌, if◌then◌else◌}
 use Rattle.rup_base.specs.Gather.{greatest}
 use Rattle.bed_syntax.specs.declared.expression.BExpr.{BExpr, BExpr-F, fold-BExpr}
 use Rattle.bed_syntax.specs.declared.expression.BExpr.TheOpen as e
@@ -96,7 +96,7 @@ abbrev pub numbers : ℕ → List ℕ
 numbers zero = []
 numbers (suc n) = numbers n ++ n ∷ []
 
--- the arguments, which are the first locals, then the other locals of the command in order of first sight, then the
--- results that are not among them
+-- the distinct locals of a command with its arguments and results: the arguments, which are the first locals, then the other
+-- locals of the command in order of first sight, then the results that are not among them
 abbrev pub locals_of : Cmd → ℕ → List ℕ → List ℕ
 locals_of c args rets = all_noted rets (cmd_locals c (numbers args))

@@ -1,5 +1,4 @@
 -- Proofs that the laws of `WordBook` cite. What an `impl` proves is cited from `specs`.
-pub mod Nodes
 pub mod Fits
 pub mod Words
 pub mod Powers

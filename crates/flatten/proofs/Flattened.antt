@@ -3,7 +3,7 @@ use Rattle.std.proofs.Common.{◌≡◌, refl, ap, ◌∙◌, arith, ℕ, zero, 
 use Rattle.std.proofs.lemmas.List.{length-map}
 use Rattle.std.proofs.lemmas.Option.{slice_get-map, slice_get-get_or, get_or_from_slice_get}
 use Rattle.bed_syntax.specs.Named.{cmd_names}
-use Rattle.bed_syntax.specs.Shape.{cmd_locals, cmd_size}
+use Rattle.bed_syntax.specs.Shape.{cmd_locals, cmd_size, numbers, locals_of}
 use Rattle.bed_syntax.specs.Weight.{cmd_weight}
 use Rattle.bed_syntax.specs.declared.weights.Weights.{Weights}
 use Rattle.bed_syntax.specs.declared.command.Cmd.{Cmd}
@@ -11,7 +11,6 @@ use Rattle.flat_lang.specs.Count.{code_names, code_weight, code_size}
 use Rattle.flat_lang.specs.Whole.{IsWhole}
 use Rattle.flat_lang.specs.declared.flat.Flat.{Flat}
 use Rattle.flatten.specs.Code.{place, flat_of}
-use Rattle.bed_syntax.specs.Shape.{numbers, locals_of}
 use Rattle.bed_syntax.specs.Tables.{cmd_tables}
 use Rattle.flatten.proofs.CountedCommands.{CmdSame, cmd_same}
 use Rattle.flatten.proofs.Growth.{cmd_grows}

@@ -2,7 +2,7 @@
 use Rattle.std.proofs.Common.{◌≡◌, sym, ap, subst, ◌∙◌, arith, ℕ, ◌+◌, ◌-◌, ◌<◌, min, List, [], ◌∷◌, length, map, Ok, option_map, slice_get}
 use Rattle.std.proofs.lemmas.Option.{slice_get-map}
 use Rattle.std.specs.FinMap.{get}
-use Rattle.bed_syntax.specs.Shape.{expr_locals, cmd_locals, cmd_locals_step, all_noted}
+use Rattle.bed_syntax.specs.Shape.{expr_locals, cmd_locals, cmd_locals_step, all_noted, numbers, locals_of}
 use Rattle.bed_syntax.specs.Shape as shape
 use Rattle.bed_syntax.specs.Weight.{expr_weight}
 use Rattle.bed_syntax.specs.declared.weights.Weights.{Weights}
@@ -16,7 +16,6 @@ use Rattle.flat_lang.specs.State.{Vars}
 use Rattle.flat_lang.specs.Meaning.{run_all, finish}
 use Rattle.flat_lang.specs.declared.flat.Flat.{Flat}
 use Rattle.flatten.specs.Code.{expr_code, CmdCode, cmd_code, cmd_step, in_turn, place, flat_of}
-use Rattle.bed_syntax.specs.Shape.{numbers, locals_of}
 use Rattle.flatten.specs.Keeps.{Starts, Returns, Keeps}
 use Rattle.flatten.proofs.Commands.{Comes, Follows, fuelled_follows, set_follows, store_follows, cond_follows, none_follows, then_follows}
 use Rattle.flatten.proofs.Expressions.{Agrees, expr_right}

@@ -2,9 +2,8 @@
 use Rattle.std.proofs.Common.{◌≡◌, refl, sym, ap, subst, ◌∙◌, arith, ℕ, zero, suc, ◌+◌, ◌<◌, ◌≤◌, min, Bool, true, false, ◌||◌, nat_eq, List, [], ◌∷◌, ◌++◌, length, length-append, Some, None, slice_get, if◌then◌else◌, ◌⊎◌, inl, inr, ⊎_elim}
 use Rattle.std.proofs.lemmas.Bool.{cases_lt}
 use Rattle.std.proofs.lemmas.Bool.Decides.{eqb_tells}
-use Rattle.bed_syntax.specs.Shape.{is_known, noted, all_noted}
+use Rattle.bed_syntax.specs.Shape.{is_known, noted, all_noted, numbers}
 use Rattle.flatten.specs.Code.{place}
-use Rattle.bed_syntax.specs.Shape.{numbers}
 
 abbrev pub Known : List ℕ → ℕ → Type 0
 Known ns x = place ns x < length ns

@@ -1,7 +1,7 @@
 -- The three-address code of a command. A local has its place in a list of locals as its variable. The value of an
 -- expression goes into a given variable, and what is evaluated on the way into those above it.
 use Rattle.std.specs.Prelude.{ℕ, ◌+◌, nat_eq, List, [], ◌∷◌, ◌++◌, map, length, if◌then◌else◌}
-use Rattle.bed_syntax.specs.Shape.{cmd_depth}
+use Rattle.bed_syntax.specs.Shape.{cmd_depth, locals_of}
 use Rattle.bed_syntax.specs.declared.expression.BExpr.{BExpr, BExpr-F, fold-BExpr}
 use Rattle.bed_syntax.specs.declared.expression.BExpr.TheOpen as e
 use Rattle.bed_syntax.specs.declared.command.Cmd.{Cmd, Cmd-F, fold-Cmd}
@@ -9,7 +9,6 @@ use Rattle.bed_syntax.specs.declared.command.Cmd.TheOpen as c
 use Rattle.flat_lang.specs.declared.flat.FStmt.{FStmt}
 use Rattle.flat_lang.specs.declared.flat.FStmt.TheVariants as f
 use Rattle.flat_lang.specs.declared.flat.Flat.{Flat}
-use Rattle.bed_syntax.specs.Shape.{locals_of}
 
 -- the place of a local in a list, which is the list's length where it is not there
 abbrev pub place : List ℕ → ℕ → ℕ

@@ -4,6 +4,7 @@ pub mod Arrays
 pub mod Bindings
 pub mod Expressions
 pub mod Models
+pub mod Nodes
 pub mod Numbers
 pub mod Parameters
 pub mod Statements

@@ -1,6 +1,7 @@
 pub mod Answers
 pub mod Gather
 pub mod Name
+pub mod Number
 pub mod RefusalLine
 pub mod Word
 pub mod formers

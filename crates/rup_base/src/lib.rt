@@ -1,5 +1,5 @@
 //! The words that every crate of the compiler speaks: lists, texts and boxes that contracts see as what
-//! they hold, names, places, arguments, and the refusals that a user is told. `specs/Answers.antt` has the
+//! they hold, names, numbers, places, arguments, and the refusals that a user is told. `specs/Answers.antt` has the
 //! words in which each exact contract is said.
 #![tactic(auto)]
 
@@ -10,6 +10,7 @@ mod line;
 mod list;
 mod name;
 mod no_memory;
+mod number;
 mod refusal;
 mod text;
 mod word;
@@ -21,6 +22,7 @@ pub use line::refusal_line;
 pub use list::List;
 pub use name::Name;
 pub use no_memory::NoMemory;
+pub use number::{number_of, numeral};
 pub use refusal::{ArgFault, Goal, Limit, Refusal, TextWhy, TypePlace, TypeWhy};
 pub use text::Text;
 pub use word::{high_product, signed_less};

@@ -16,7 +16,7 @@ use Rattle.rv_code.specs.Field.{reg, imm12}
 use Rattle.rv_code.specs.declared.instruction.Instr.{Instr}
 use Rattle.rv_code.specs.declared.instruction.Instr.TheVariants.{Addi, Jalr}
 use Rattle.rv_code.specs.Word.{word_of}
-use Rattle.rv_code.proofs.Same.{same}
+use Rattle.rv_code.proofs.laws.Same.{same}
 use Rattle.rv_emit.specs.Code.{block_code}
 use Rattle.rv_emit.specs.Emission.{IsPlan, Adds}
 use Rattle.rv_emit.specs.Fit.{all_fit}

@@ -7,7 +7,6 @@ use Rattle.std.proofs.lemmas.Option.{none-some, same_Some}
 use Rattle.equations.specs.Book.{SameMeaning, NoWorse, Laws}
 use Rattle.equations.specs.Equations.{Equation, sides, is_neutral, is_literal, literal, power, exchanged, grouped_right, grouped_left, left_alone, computed, unmasked, byte_of_masked, with_mask, word_of_byte}
 use Rattle.equations.specs.laws.Fits.{any_is, among_is, sides_are, byte_is, word_is, literal_of, literal_is, mapped, power_is, guarded}
-use Rattle.equations.specs.laws.Nodes.{at_lit, IsWord, lit_typed, bin_typed, bin_parts, byte_typed, byte_parts, word_parts, eval_lit, eval_bin, eval_word, eval_byte, tables_lit, tables_bin, tables_word, tables_byte, IsWhole, formed_whole, spellable_whole, Holds, parts, joined, lit_holds, byte_holds, word_holds}
 use Rattle.equations.specs.laws.Words.{Commutes, Associates, neutral_word, byte_masks}
 use Rattle.model_syntax.specs.Environment.{Env}
 use Rattle.model_syntax.specs.Formed.{expr_formed, expr_formed_step}
@@ -22,6 +21,7 @@ use Rattle.model_syntax.specs.declared.expr.Expr.TheVariants.{Lit, Bin, ToWord, 
 use Rattle.model_syntax.specs.declared.expr.Op.{Op}
 use Rattle.model_syntax.specs.declared.expr.Op.TheVariants as op
 use Rattle.model_syntax.specs.declared.expr.Scalar.TheVariants.{Word}
+use Rattle.model_syntax.proofs.laws.Nodes.{fold_lit, IsWord, lit_typed, bin_typed, bin_parts, byte_typed, byte_parts, word_parts, eval_lit, eval_bin, eval_word, eval_byte, tables_lit, tables_bin, tables_word, tables_byte, IsOfParts, formed_of_parts, spellable_of_parts, Holds, sides_hold, bin_holds, lit_holds, byte_holds, word_holds}
 use Rattle.model_syntax.proofs.laws.Numbers.{apply_word}
 use Rattle.model_syntax.proofs.laws.Words.{word_value}
 
@@ -47,18 +47,18 @@ same_bin o p q right typed valued formed = record {
       typed c h.0 h.1.0 ∙ ap Ok (sym h.1.1);
   value = λ numbers c env has t is.
       let h = bin_parts o p q c t is in
-      let f = parts expr_formed_step formed_whole o p q formed in
+      let f = sides_hold expr_formed_step formed_of_parts o p q formed in
       valued env (word_value numbers c env has p f.0 Word h.0) ∙ sym (eval_bin o p q env);
 }
 
 -- No worse.
 
 no_worse_by : (left right : Expr) → expr_tables right ≤ expr_tables left
-    → ((step : Expr-F Bool → Bool) (w : IsWhole step) → Holds step w left → Holds step w right) → NoWorse left right
+    → ((step : Expr-F Bool → Bool) (w : IsOfParts step) → Holds step w left → Holds step w right) → NoWorse left right
 no_worse_by left right few holds = record {
   tables = few;
-  spellable = holds expr_spellable_step spellable_whole;
-  formed = holds expr_formed_step formed_whole;
+  spellable = holds expr_spellable_step spellable_of_parts;
+  formed = holds expr_formed_step formed_of_parts;
 }
 
 carried : (left right l r : Expr) → left ≡ l → r ≡ right → Keeps l r → Keeps left right
@@ -71,7 +71,7 @@ exchanged_keeps o p q commutes = record {
   meaning = same_bin o p q (Bin o q p) (λ c one two. bin_typed o q p c two one)
       (λ env word. eval_bin o q p env ∙ commutes (eval p env) (eval q env));
   no_worse = no_worse_by (Bin o p q) (Bin o q p) (omega (arith, tables_bin o p q, tables_bin o q p))
-      (λ step w holds. let h = parts step w o p q holds in joined step w o q p h.1 h.0);
+      (λ step w holds. let h = sides_hold step w o p q holds in bin_holds step w o q p h.1 h.0);
 }
 
 pub exchanged_lawful : (o : Op) → Commutes o → Lawful (exchanged o)
@@ -101,9 +101,9 @@ right_keeps o p q r associates = record {
       ∙ ap (λ n. apply o n (eval r env)) (sym (eval_bin o p q env)));
   no_worse = no_worse_by (Bin o (Bin o p q) r) (Bin o p (Bin o q r)) (omega (arith, grouped_tables o p q r))
       (λ step w holds.
-      let h = parts step w o (Bin o p q) r holds in
-      let k = parts step w o p q h.0 in
-      joined step w o p (Bin o q r) k.0 (joined step w o q r k.1 h.1));
+      let h = sides_hold step w o (Bin o p q) r holds in
+      let k = sides_hold step w o p q h.0 in
+      bin_holds step w o p (Bin o q r) k.0 (bin_holds step w o q r k.1 h.1));
 }
 
 left_keeps : (o : Op) (p q r : Expr) → Associates o → Keeps (Bin o p (Bin o q r)) (Bin o (Bin o p q) r)
@@ -116,9 +116,9 @@ left_keeps o p q r associates = record {
       ∙ ap (λ n. apply o (eval p env) n) (sym (eval_bin o q r env)));
   no_worse = no_worse_by (Bin o p (Bin o q r)) (Bin o (Bin o p q) r) (omega (arith, grouped_tables o p q r))
       (λ step w holds.
-      let h = parts step w o p (Bin o q r) holds in
-      let k = parts step w o q r h.1 in
-      joined step w o (Bin o p q) r (joined step w o p q h.0 k.0) k.1);
+      let h = sides_hold step w o p (Bin o q r) holds in
+      let k = sides_hold step w o q r h.1 in
+      bin_holds step w o (Bin o p q) r (bin_holds step w o p q h.0 k.0) k.1);
 }
 
 pub right_lawful : (o : Op) → Associates o → Lawful (grouped_right o)
@@ -147,7 +147,7 @@ by_number o e n to k small same = record {
       ∙ ap (λ m. apply o (eval e env) m) (sym (eval_lit n env)));
   no_worse = no_worse_by (Bin o e (Lit n)) (Bin to e (Lit k))
       (omega (arith, tables_bin o e (Lit n), tables_bin to e (Lit k), tables_lit n, tables_lit k))
-      (λ step w holds. joined step w to e (Lit k) (parts step w o e (Lit n) holds).0 (lit_holds step w k small));
+      (λ step w holds. bin_holds step w to e (Lit k) (sides_hold step w o e (Lit n) holds).0 (lit_holds step w k small));
 }
 
 -- the same of an equation for the numbers that are powers of two
@@ -168,7 +168,7 @@ alone_keeps o e n neutral = record {
   meaning = same_bin o e (Lit n) e (λ c one two. one)
       (λ env word. sym (ap (λ m. apply o (eval e env) m) (eval_lit n env) ∙ neutral_word o (eval e env) n neutral word));
   no_worse = no_worse_by (Bin o e (Lit n)) e (omega (arith, tables_bin o e (Lit n)))
-      (λ step w holds. (parts step w o e (Lit n) holds).0);
+      (λ step w holds. (sides_hold step w o e (Lit n) holds).0);
 }
 
 pub alone_lawful : (n : ℕ) → Lawful (left_alone n)
@@ -179,7 +179,7 @@ alone_lawful n left right is =
     carried left right _ _ at (same_Some h.1 right g.1) (alone_keeps h.0 h.1 n h.3.1.0)
 
 word_of_lit : (n : ℕ) → expr_formed (Lit n) ≡ true → is_word n ≡ true
-word_of_lit n formed = sym (at_lit Bool expr_formed_step n) ∙ formed
+word_of_lit n formed = sym (fold_lit Bool expr_formed_step n) ∙ formed
 
 computed_keeps : (o : Op) (n k : ℕ) → Keeps (Bin o (Lit n) (Lit k)) (Lit (apply o n k))
 computed_keeps o n k = record {
@@ -190,10 +190,10 @@ computed_keeps o n k = record {
       ∙ ap (λ m. apply o (eval (Lit n) env) m) (sym (eval_lit k env)));
   no_worse = record {
     tables = omega (arith, tables_lit (apply o n k));
-    spellable = λ is. at_lit Bool expr_spellable_step (apply o n k);
+    spellable = λ is. fold_lit Bool expr_spellable_step (apply o n k);
     formed = λ is.
-        let h = parts expr_formed_step formed_whole o (Lit n) (Lit k) is in
-        lit_holds expr_formed_step formed_whole (apply o n k) (apply_word o n k (word_of_lit n h.0) (word_of_lit k h.1));
+        let h = sides_hold expr_formed_step formed_of_parts o (Lit n) (Lit k) is in
+        lit_holds expr_formed_step formed_of_parts (apply o n k) (apply_word o n k (word_of_lit n h.0) (word_of_lit k h.1));
   };
 }
 
@@ -229,7 +229,7 @@ byte_keeps e = record {
   no_worse = no_worse_by (ToByte (Bin op.And e (Lit 255))) (ToByte e)
       (omega (arith, tables_byte (Bin op.And e (Lit 255)), tables_bin op.And e (Lit 255), tables_byte e))
       (λ step w holds.
-      byte_holds step w e ∙ (parts step w op.And e (Lit 255) (sym (byte_holds step w (Bin op.And e (Lit 255))) ∙ holds)).0);
+      byte_holds step w e ∙ (sides_hold step w op.And e (Lit 255) (sym (byte_holds step w (Bin op.And e (Lit 255))) ∙ holds)).0);
 }
   where
     twice : (a : ℕ) → a % 256 % 256 ≡ a % 256
@@ -255,7 +255,7 @@ word_keeps e = record {
   no_worse = no_worse_by (ToWord (ToByte e)) (Bin op.And e (Lit 255))
       (omega (arith, tables_word (ToByte e), tables_byte e, tables_bin op.And e (Lit 255), tables_lit 255))
       (λ step w holds.
-      joined step w op.And e (Lit 255) (sym (byte_holds step w e) ∙ sym (word_holds step w (ToByte e)) ∙ holds)
+      bin_holds step w op.And e (Lit 255) (sym (byte_holds step w e) ∙ sym (word_holds step w (ToByte e)) ∙ holds)
       (lit_holds step w 255 refl));
 }
 

@@ -1,5 +1,5 @@
 use Rattle.std.proofs.Common.{◌≡◌, ◌≢◌, ℕ, IfSome, IfNone, Some, None, Option, sym, ◌∙◌, ap}
-use Rattle.rv_code.proofs.Same.{same}
+use Rattle.rv_code.proofs.laws.Same.{same}
 use Rattle.rv_code.specs.Word.{word_of}
 use Rattle.rv_code.specs.declared.instruction.Instr.{Instr}
 use Rattle.rv_code.proofs.decoding.decode.Goals as goal

@@ -6,12 +6,14 @@
 mod command;
 mod expression;
 mod operation;
+mod paths;
 mod printer;
 mod weights;
 
 pub use command::Cmd;
 pub use expression::BExpr;
 pub use operation::{BOp, Size};
+pub use paths::early_is_some_path;
 pub use printer::print_cmd;
 pub use weights::Weights;
 

@@ -1,0 +1,4 @@
+pub mod laws
+pub mod EarlyPaths
+pub mod Measured
+pub mod Pressures

@@ -3,6 +3,7 @@ pub mod Named
 pub mod Shape
 pub mod Intervals
 pub mod Pressure
+pub mod Paths
 pub mod Spelling
 pub mod Weight
 pub mod Tables

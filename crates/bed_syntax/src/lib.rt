@@ -8,6 +8,7 @@ mod depth;
 mod expression;
 mod locals;
 mod operation;
+mod paths;
 mod printer;
 mod weights;
 
@@ -16,6 +17,7 @@ pub use depth::depth_of_cmd;
 pub use expression::BExpr;
 pub use locals::locals_of_cmd;
 pub use operation::{BOp, Size};
+pub use paths::early_is_some_path;
 pub use printer::print_cmd;
 pub use weights::Weights;
 

@@ -3,5 +3,6 @@ pub mod Locals
 pub mod Meaning
 pub mod MoreFuel
 pub mod Outcome
+pub mod Runs
 pub mod State
 pub mod Value

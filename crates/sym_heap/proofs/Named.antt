@@ -28,7 +28,7 @@ is_named name x y = same (name y) x
 abbrev pub Once : {A : Type 0} → (A → Name) → List A → Type 0
 Once {A} name xs = (i j : ℕ) (x y : A) → slice_get xs i ≡ Some x → slice_get xs j ≡ Some y → i ≢ j → same (name x) (name y) ≡ false
 
-once_behind : {A : Type 0} (name : A → Name) (x : A) (xs : List A) → Once name (x ∷ xs) → Once name xs
+pub once_behind : {A : Type 0} (name : A → Name) (x : A) (xs : List A) → Once name (x ∷ xs) → Once name xs
 once_behind name x xs once i j y z at_i at_j differ = once (suc i) (suc j) y z at_i at_j (λ e. differ (omega (arith, e)))
 
 -- the place of the first that passes, or the end

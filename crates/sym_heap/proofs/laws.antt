@@ -1,5 +1,10 @@
 pub mod Elements
+pub mod Ending
 pub mod EndScopes
+pub mod Lookups
 pub mod Moves
+pub mod Moving
 pub mod Scopes
+pub mod Settling
+pub mod States
 pub mod Writes

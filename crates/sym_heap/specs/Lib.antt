@@ -5,6 +5,7 @@ pub mod Ends
 pub mod Fits
 pub mod Moves
 pub mod Scoped
+pub mod Settle
 pub mod Sides
 pub mod Start
 pub mod Writes

@@ -23,6 +23,15 @@ pub record IsWritten (call : Call) (a : Name) (k : Clause) (i n : ℕ) (env afte
   pub bytes : Stands after (call.pointers k.param + k.size * i) (element_bytes k.size n)
   pub others : (address : ℕ) → (Within (element_range call k i) address → ⊥) → get after address ≡ get mem address
 
+-- the same where the array goes on under the name b
+pub record IsMoved (call : Call) (a b : Name) (k : Clause) (i n : ℕ) (env after_env : Env) (mem after : Bytes) : Type 0 where
+  pub inside : i < length (elements (value_of env a))
+  pub small : n ≤ element_top k.size
+  pub value : value_of after_env b ≡ with_element i n (value_of env a)
+  pub values : (x : Name) → same b x ≡ false → value_of after_env x ≡ value_of env x
+  pub bytes : Stands after (call.pointers k.param + k.size * i) (element_bytes k.size n)
+  pub others : (address : ℕ) → (Within (element_range call k i) address → ⊥) → get after address ≡ get mem address
+
 -- A context fits after a write as it did before: so a loop's context fits at its second turn, whichever arrays the first
 -- turn wrote to. That a never written array is the argument is said of the context in which the write is counted.
 pub record WritesFit : Type 0 where

@@ -37,22 +37,22 @@ alike_scoped ps scope after c alike s = record {
 
 -- Clauses after the ends.
 
-record Mapped (f : Clause → Clause) (ks : List Clause) (i : ℕ) (j : Clause) : Type 0 where
+pub record Mapped (f : Clause → Clause) (ks : List Clause) (i : ℕ) (j : Clause) : Type 0 where
   pub clause : Clause
   pub at : slice_get ks i ≡ Some clause
   pub is : j ≡ f clause
 
-mapped : (f : Clause → Clause) (ks : List Clause) (i : ℕ) (j : Clause) → slice_get (map f ks) i ≡ Some j → Mapped f ks i j
+pub mapped : (f : Clause → Clause) (ks : List Clause) (i : ℕ) (j : Clause) → slice_get (map f ks) i ≡ Some j → Mapped f ks i j
 mapped f [] i j at = absurd (let bad : None ≡ Some j = at in cc)
 mapped f (k ∷ ks) zero j at = let is : f k ≡ j = cc in record { clause = k; at = refl; is = sym is }
 mapped f (k ∷ ks) (suc i) j at = let m = mapped f ks i j at in record { clause = m.clause; at = m.at; is = m.is }
 
-record Later (ls : List Clause) (i : ℕ) (k : Clause) : Type 0 where
+pub record Later (ls : List Clause) (i : ℕ) (k : Clause) : Type 0 where
   pub clause : Clause
   pub at : slice_get ls i ≡ Some clause
   pub same_one : IsSameArray k clause
 
-later : (ks ls : List Clause) (i : ℕ) (k : Clause) → Follow ks ls → slice_get ks i ≡ Some k → Later ls i k
+pub later : (ks ls : List Clause) (i : ℕ) (k : Clause) → Follow ks ls → slice_get ks i ≡ Some k → Later ls i k
 later [] ls i k follow at = absurd (let bad : None ≡ Some k = at in cc)
 later (m ∷ ks) [] i k follow at = absurd follow
 later (m ∷ ks) (l ∷ ls) zero k follow at = let is : m ≡ k = cc in record { clause = l; at = refl; same_one = subst (λ (z : Clause). IsSameArray z l) is follow.0 }

@@ -101,7 +101,7 @@ other_clause call numbers l r found mem after locals f apart others = record {
       let size : length (array_bytes found) ≡ call.sizes l.param = f.parameter in
       (omega arith, omega (arith, less, size))
 
-no_scalar : (call : Call) (numbers : ℕ → ℕ) (k : Clause) (h : Held) (found : Option Arg) (mem : Bytes) (locals : Locals) → ClauseFits call numbers k found mem locals → ScalarFits numbers h found locals → ⊥
+pub no_scalar : (call : Call) (numbers : ℕ → ℕ) (k : Clause) (h : Held) (found : Option Arg) (mem : Bytes) (locals : Locals) → ClauseFits call numbers k found mem locals → ScalarFits numbers h found locals → ⊥
 no_scalar call numbers k h found mem locals f s = subst (λ (o : Option Arg). IsArray k.size o) s.value f.array
 
 pub written_fits : (call : Call) (numbers : ℕ → ℕ) (c : Context) (a : Name) (k : Clause) (i n : ℕ) (env after_env : Env) (mem after : Bytes) (locals : Locals)
@@ -197,7 +197,7 @@ was a ks i k at = by (changed_at (λ (z : Clause). z.name) a written ks i k at) 
   }
   by (unchanged found) = record { clause = k; at = found; name = refl; param = refl; pointer = refl; length_same = refl; length_local = refl }
 
-counted_consistent : (c : Context) (a : Name) → IsConsistent c → IsConsistent (with_clause a written c)
+pub counted_consistent : (c : Context) (a : Name) → IsConsistent c → IsConsistent (with_clause a written c)
 counted_consistent c a s = record {
   entries_known = s.entries_known;
   scalars_known = s.scalars_known;

@@ -4,5 +4,4 @@ ghost use Rattle.bed_syntax.specs.Paths.{EarlyIsSomePath};
 /// A local is read early in a command exactly where some path through it reads the local before it sets it.
 pub fn early_is_some_path()
     ensures { EarlyIsSomePath }
-{
-}
+{}

@@ -92,12 +92,14 @@ claimed w part mem vars after left i (done m vs) =
     (0, λ n k. (let same_ticks : k ≡ k + 0 = omega arith in ap (λ t. Ok (state n t m vs)) same_ticks))
 claimed w part mem vars after left i (next p ps one rest m m1 m2 vs vs1 vs2 first others) =
     let h : Takes (run w p) m vs m1 vs1 one = claimed w (One p) m vs m1 vs1 one first in
-    let g : Takes (in_turn (map (run w) ps)) m1 vs1 m2 vs2 rest = claimed w (All ps) m1 vs1 m2 vs2 rest others in
-    (more h.0 g.0, λ n k.
-    ap (λ f. and_then (run w p (state f k m vs)) (in_turn (map (run w) ps))) (more_more h.0 g.0 n)
-    ∙ ap (λ r. and_then r (in_turn (map (run w) ps))) (h.1 (more g.0 n) k)
-    ∙ g.1 n (k + one)
-    ∙ later n k one rest m2 vs2)
+    let g : Takes (in_turn (map (run w) ps)) m1 vs1 m2 vs2 rest = claimed w (All ps) m1 vs1 m2 vs2 rest others in (
+      more h.0 g.0,
+      λ n k.
+          ap (λ f. and_then (run w p (state f k m vs)) (in_turn (map (run w) ps))) (more_more h.0 g.0 n)
+          ∙ ap (λ r. and_then r (in_turn (map (run w) ps))) (h.1 (more g.0 n) k)
+          ∙ g.1 n (k + one)
+          ∙ later n k one rest m2 vs2,
+    )
 claimed w part mem vars after left i (ends e p m vs is) =
     (0, λ b n k less. at_end b n k less)
   where

@@ -15,7 +15,7 @@ use Rattle.model_syntax.specs.declared.program.Param.{Param}
 use Rattle.bed_meaning.specs.Locals.{Vars, local_at}
 use Rattle.rv_emit.specs.Ready.{arguments}
 use Rattle.rv_machine.specs.State.{register}
-use Rattle.rv_machine.proofs.Memory.{get-insert_same, get-insert_other}
+use Rattle.rv_memory.proofs.laws.Numbers.{get-insert_same, get-insert_other}
 
 -- each word in the local of its place
 abbrev pub held : List Arg → Vars

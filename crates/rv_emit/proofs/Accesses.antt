@@ -19,7 +19,7 @@ use Rattle.rv_machine.specs.State.{State, register, number_at, with_number}
 use Rattle.rv_memory.specs.Ranges.{Bytes}
 use Rattle.rv_machine.specs.Effect.{effect}
 use Rattle.rv_machine.specs.Step.{gives}
-use Rattle.rv_machine.proofs.Memory.{get-with_number_other, mapped-with_number, mapped_before_with_number, number_at-with_number_other, is_some-number_at}
+use Rattle.rv_memory.proofs.laws.Numbers.{get-with_number_other, mapped-with_number, mapped_before_with_number, number_at-with_number_other, is_some-number_at}
 use Rattle.rv_emit.specs.Code.{fetch, save, load_at, store_to, upper, ahead}
 use Rattle.rv_emit.proofs.Bytes.{Seen, seen-with_number, bytes-with_number, Placed, found_by, load_found, store_found, stored_number, tested}
 use Rattle.rv_emit.proofs.Does.{loads_is, stores_is, with_stored, nothing_added, parts_sum}

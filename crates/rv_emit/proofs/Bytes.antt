@@ -7,7 +7,7 @@ use Rattle.bed_syntax.specs.declared.operation.Size.TheVariants as size
 use Rattle.bed_meaning.specs.Access.{width, low_high, word, loaded, stored, store, where_some}
 use Rattle.rv_machine.specs.State.{number_at, with_number}
 use Rattle.rv_memory.specs.Ranges.{Bytes}
-use Rattle.rv_machine.proofs.Memory.{get-insert_same, get-insert_other, number_at_four}
+use Rattle.rv_memory.proofs.laws.Numbers.{get-insert_same, get-insert_other, number_at_four}
 
 -- the second memory has what the first has
 abbrev pub Seen : Bytes → Bytes → Type 0

@@ -10,7 +10,7 @@ use Rattle.rv_machine.specs.State.{State, register}
 use Rattle.rv_memory.specs.Ranges.{Bytes}
 use Rattle.rv_machine.specs.Effect.{effect}
 use Rattle.rv_machine.specs.Step.{jumps, branches}
-use Rattle.rv_machine.proofs.Runs.{leads_on}
+use Rattle.rv_machine.proofs.laws.Runs.{leads_on}
 use Rattle.rv_emit.specs.Code.{jump, jump_back, skip}
 use Rattle.rv_emit.proofs.Does.{goes_on_is}
 use Rattle.reg_alloc.specs.declared.plan.At.{At}

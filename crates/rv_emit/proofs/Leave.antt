@@ -9,8 +9,8 @@ use Rattle.rv_machine.specs.State.{State, register}
 use Rattle.rv_memory.specs.Ranges.{Bytes}
 use Rattle.rv_machine.specs.Effect.{effect}
 use Rattle.rv_machine.specs.Step.{jumps}
-use Rattle.rv_machine.proofs.Registers.{register-with_register_other, register-with_register_same}
-use Rattle.rv_machine.proofs.Runs.{Leads, stays}
+use Rattle.rv_machine.proofs.laws.Registers.{register-with_register_other, register-with_register_same}
+use Rattle.rv_machine.proofs.laws.Runs.{Leads, stays}
 use Rattle.rv_emit.proofs.Does.{extended_small, nothing_added}
 use Rattle.rv_emit.proofs.Site.{Site, InCode, Sound, Memory}
 use Rattle.rv_emit.proofs.Runs.{HasAll, set_reg, gives_is}

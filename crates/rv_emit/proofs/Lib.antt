@@ -1,3 +1,4 @@
+pub mod laws
 pub mod Site
 pub mod Bytes
 pub mod Runs

@@ -15,9 +15,9 @@ use Rattle.rv_code.specs.declared.instruction.Instr.{Instr}
 use Rattle.rv_code.specs.Word.{word_of}
 use Rattle.rv_machine.specs.State.{State, register, number_at}
 use Rattle.rv_memory.specs.Ranges.{Bytes, Range, Within, Apart, Stands}
-use Rattle.rv_machine.proofs.Registers.{length-with_register, register-with_register_other, register-with_register_same}
+use Rattle.rv_machine.proofs.laws.Registers.{length-with_register, register-with_register_other, register-with_register_same}
 use Rattle.rv_emit.specs.Whole.{Placement, behind, stack_of, table_far, code_with}
-use Rattle.rv_machine.proofs.Memory.{number_at_agree}
+use Rattle.rv_memory.proofs.laws.Numbers.{number_at_agree}
 use Rattle.rv_emit.specs.Tables.{text_of}
 use Rattle.rv_emit.specs.Ready.{stack_range, Ready, InOne, IsPart, arguments}
 use Rattle.rv_emit.proofs.Standing.{stands_front, stands_back, words_stand, length-word_bytes}

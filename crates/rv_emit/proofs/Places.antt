@@ -13,8 +13,8 @@ use Rattle.rv_machine.specs.State.{State, register, number_at, with_number}
 use Rattle.rv_memory.specs.Ranges.{Bytes}
 use Rattle.rv_machine.specs.Effect.{effect}
 use Rattle.rv_machine.specs.Step.{gives}
-use Rattle.rv_machine.proofs.Memory.{get-insert_same, get-insert_other, get-with_number_other, mapped-with_number, mapped_before_with_number, number_at-with_number, number_at-with_number_other, is_some-number_at}
-use Rattle.rv_machine.proofs.Registers.{length-with_register, register-with_register_other, register-with_register_same}
+use Rattle.rv_memory.proofs.laws.Numbers.{get-insert_same, get-insert_other, get-with_number_other, mapped-with_number, mapped_before_with_number, number_at-with_number, number_at-with_number_other, is_some-number_at}
+use Rattle.rv_machine.proofs.laws.Registers.{length-with_register, register-with_register_other, register-with_register_same}
 use Rattle.rv_emit.specs.Code.{fetch, save}
 use Rattle.rv_emit.proofs.Bytes.{bytes-with_number}
 use Rattle.rv_emit.proofs.Does.{loads_is, stores_is, with_stored, slot_offset, nothing_added}

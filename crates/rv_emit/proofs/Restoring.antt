@@ -8,8 +8,8 @@ use Rattle.rv_machine.specs.State.{State, register, with_register, number_at}
 use Rattle.rv_memory.specs.Ranges.{Bytes}
 use Rattle.rv_machine.specs.Effect.{effect}
 use Rattle.rv_machine.specs.Step.{gives}
-use Rattle.rv_machine.proofs.Registers.{length-with_register, register-with_register_other, register-with_register_same}
-use Rattle.rv_machine.proofs.Runs.{Leads, stays, leads_then}
+use Rattle.rv_machine.proofs.laws.Registers.{length-with_register, register-with_register_other, register-with_register_same}
+use Rattle.rv_machine.proofs.laws.Runs.{Leads, stays, leads_then}
 use Rattle.rv_emit.specs.Code.{fetch}
 use Rattle.rv_emit.specs.Whole.{restores}
 use Rattle.rv_emit.proofs.Does.{loads_is, slot_offset}

@@ -19,8 +19,8 @@ use Rattle.rv_machine.specs.Word.{plus}
 use Rattle.rv_machine.specs.Fields.{extended}
 use Rattle.rv_machine.specs.State.{State, register, number_at}
 use Rattle.rv_memory.specs.Ranges.{Bytes, Range, Within}
-use Rattle.rv_machine.proofs.Registers.{register-with_register_same, register-with_register_other}
-use Rattle.rv_machine.proofs.Runs.{Leads, stays, leads_then}
+use Rattle.rv_machine.proofs.laws.Registers.{register-with_register_same, register-with_register_other}
+use Rattle.rv_machine.proofs.laws.Runs.{Leads, stays, leads_then}
 use Rattle.rv_emit.specs.Fit.{all_fit}
 use Rattle.rv_emit.specs.Whole.{Placement, behind, stack_of, saves, restores, moves_in, moves_out, body_with, code_with}
 use Rattle.rv_emit.specs.Ready.{stack_range, Ready, IsPart, arguments}
@@ -40,7 +40,7 @@ use Rattle.rv_emit.specs.Code.{save}
 use Rattle.reg_alloc.specs.declared.plan.At.{At}
 use Rattle.reg_alloc.specs.declared.plan.At.TheVariants.{Slot}
 use Rattle.std.proofs.lemmas.Option.{slice_get_within}
-use Rattle.rv_machine.proofs.Memory.{number_at_agree}
+use Rattle.rv_memory.proofs.laws.Numbers.{number_at_agree}
 use Rattle.std.specs.Ordering.{nat_cmp}
 
 frame_taken : (sp stack : ℕ) → sp < 2 ^ 32 → stack ≤ sp → stack < 2048 → plus sp (extended 2048 ((4096 - stack) % 4096)) ≡ sp - stack

@@ -14,11 +14,11 @@ use Rattle.rv_machine.specs.State.{State, register, with_register, number_at}
 use Rattle.rv_memory.specs.Ranges.{Bytes}
 use Rattle.rv_machine.specs.Effect.{effect}
 use Rattle.rv_machine.specs.Step.{Answer, gives, step}
-use Rattle.rv_machine.proofs.Memory.{number_at_agree}
-use Rattle.rv_machine.proofs.Registers.{length-with_register, register-with_register_other, register-with_register_same}
-use Rattle.rv_machine.proofs.Rows.{step_by}
-use Rattle.rv_machine.proofs.Runs.{Leads, stays, leads_on, leads_then}
-use Rattle.rv_machine.proofs.Table.{row_of}
+use Rattle.rv_memory.proofs.laws.Numbers.{number_at_agree}
+use Rattle.rv_machine.proofs.laws.Registers.{length-with_register, register-with_register_other, register-with_register_same}
+use Rattle.rv_machine.proofs.laws.Rows.{step_by}
+use Rattle.rv_machine.proofs.laws.Runs.{Leads, stays, leads_on, leads_then}
+use Rattle.rv_machine.proofs.laws.Table.{row_of}
 use Rattle.rv_emit.proofs.Site.{Site, InImage, InCode, Sound, Memory, Holds, IsValid, Before}
 
 -- an instruction stands in the code, and another behind it

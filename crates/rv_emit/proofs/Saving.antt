@@ -6,8 +6,8 @@ use Rattle.reg_alloc.specs.declared.plan.At.{At}
 use Rattle.rv_code.specs.declared.instruction.Instr.{Instr}
 use Rattle.rv_machine.specs.State.{State, register}
 use Rattle.rv_memory.specs.Ranges.{Bytes}
-use Rattle.rv_machine.proofs.Memory.{get-insert_same, get-insert_other}
-use Rattle.rv_machine.proofs.Runs.{Leads, stays, leads_on, leads_then}
+use Rattle.rv_memory.proofs.laws.Numbers.{get-insert_same, get-insert_other}
+use Rattle.rv_machine.proofs.laws.Runs.{Leads, stays, leads_on, leads_then}
 use Rattle.rv_emit.specs.Code.{save}
 use Rattle.rv_emit.proofs.Site.{Site, InCode, Sound, IsFree, Before}
 use Rattle.rv_emit.proofs.Runs.{HasAll, step_at}

@@ -4,7 +4,7 @@ use Rattle.std.specs.List.{flat_map}
 use Rattle.std.specs.Int.{w32, to_le_bytes}
 use Rattle.rv_machine.specs.State.{number_at}
 use Rattle.rv_memory.specs.Ranges.{Bytes, Stands}
-use Rattle.rv_machine.proofs.Memory.{number_at_four}
+use Rattle.rv_memory.proofs.laws.Numbers.{number_at_four}
 
 abbrev word_bytes : List ℕ → List ℕ
 word_bytes words = flat_map (to_le_bytes w32) words

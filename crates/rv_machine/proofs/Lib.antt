@@ -1,9 +1,4 @@
-pub mod Memory
-mod Bounds
 pub mod laws
-pub mod Registers
-pub mod Rows
-pub mod Runs
-pub mod Table
+mod Bounds
 pub mod Reached
 pub mod Steps

@@ -4,7 +4,7 @@ use Rattle.std.proofs.lemmas.Bool.{eqb-true}
 use Rattle.rv_machine.specs.declared.cause.Cause.TheVariants.{FetchMisaligned}
 use Rattle.rv_machine.specs.State.{State, number_at}
 use Rattle.rv_machine.specs.Step.{fetched, step}
-use Rattle.rv_machine.proofs.Table.{choose}
+use Rattle.rv_machine.proofs.laws.Table.{choose}
 
 pub step_misaligned : (s : State) → (s.pc % 4 ≡ 0 → ⊥) → step s ≡ Err FetchMisaligned
 unfolding step

@@ -13,7 +13,7 @@ use Rattle.rv_machine.specs.State.{State, register, with_register, joined, numbe
 use Rattle.rv_machine.specs.Step.{Answer, source1, source2, gives, goes_on, gives_if, jumps, branches, branches_if, inside, loaded, loads, load, stores, store, operation_immediate, system, executed, fetched, step, then_step, after}
 use Rattle.rv_machine.specs.Machines.{IsMachine}
 use Rattle.rv_machine.proofs.Bounds.{IsWord, IsWordIf, given_if, extended_below, shifted_left_below, shifted_right_below, shifted_signed_below, basic_below, operation_below}
-use Rattle.rv_machine.proofs.Registers.{length-with_register}
+use Rattle.rv_machine.proofs.laws.Registers.{length-with_register}
 
 -- the next state, if there is one, is a machine state
 abbrev Kept : Answer → Type 0

@@ -1,6 +1,6 @@
 use Rattle.std.proofs.Common.{arith, sym, ap, ◌∙◌, None, Some}
 use Rattle.rv_machine.specs.View.{state_of}
-use Rattle.rv_machine.proofs.Table.{row_of, unknown}
+use Rattle.rv_machine.proofs.laws.Table.{row_of, unknown}
 use Rattle.rv_machine.proofs.Steps.{step_misaligned, step_fetched}
 use Rattle.rv_machine.specs.Step.{executed}
 use Rattle.rv_machine.proofs.machine.Machine.step.Goals as goal

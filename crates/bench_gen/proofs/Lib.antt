@@ -1,1 +1,5 @@
 mod Counting
+mod Nodes
+mod Modest
+mod Typing
+mod Valid

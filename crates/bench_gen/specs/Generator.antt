@@ -11,6 +11,7 @@ use Rattle.model_syntax.specs.declared.stmt.Stmt.TheVariants as s
 use Rattle.model_syntax.specs.declared.program.Len.TheVariants as len
 use Rattle.model_syntax.specs.declared.program.Param.{Param}
 use Rattle.model_syntax.specs.declared.program.Param.TheVariants as param
+use Rattle.model_syntax.specs.declared.program.Ret.{Ret}
 use Rattle.model_syntax.specs.declared.program.Ret.TheVariants as ret
 use Rattle.model_syntax.specs.declared.program.Model.{Model}
 use Rattle.model_syntax.specs.Names.{Name}
@@ -101,13 +102,16 @@ params = param.Word word_name ∷ param.Bytes array_name (len.Named length_name)
 abbrev pub body : ℕ → ℕ → List Stmt
 body seed count = map first (range_with_len 0 8) ++ statements count seed
 
+abbrev pub rets : List Ret
+rets = ret.Scalar (scalar 0) ∷ ret.Scalar (scalar 1) ∷ []
+
 abbrev pub model : ℕ → ℕ → Model
 model seed count = record {
   name = codes "bench";
   params = params;
   requires_ = [];
   body = body seed count;
-  rets = ret.Scalar (scalar 0) ∷ ret.Scalar (scalar 1) ∷ [];
+  rets = rets;
 }
 
 abbrev pub byte : ℕ → ℕ → ℕ

@@ -5,9 +5,11 @@ mod arguments;
 mod draws;
 mod generated;
 mod terms;
+mod validity;
 
 pub use arguments::args_from;
 pub use generated::model_from;
+pub use validity::generated_models_are_valid;
 
 #[cfg(test)]
 mod tests;

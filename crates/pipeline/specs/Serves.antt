@@ -34,17 +34,19 @@ array_ranges p qs vs pointers = []
 
 -- The call that starts in s returns: within the bound at the numbers of the entry symbols; with the scalar results in a0
 -- and a1 and the returned arrays where the arguments stand; and with all else outside the stack range as it was.
-pub record Gives (m : Model) (c : ModelCommand) (args : List Arg) (pointers : ℕ → ℕ) (words : List ℕ) (stack start : ℕ) (s : State) : Type 0 where
+pub record Gives (m : Model) (c : ModelCommand) (args : List Arg) (pointers : ℕ → ℕ) (words : List ℕ) (stack start : ℕ)
+    (s : State) : Type 0 where
   pub steps : ℕ
   pub end : State
   pub ran : after steps s ≡ Ok end
   pub back : end.pc ≡ register s.regs 1
   pub before : (j : ℕ) → j < steps → IsUnderWay words start s j
   pub in_time : steps ≤ at (entry_numbers m.params args) c.bound
-  pub has_results : HoldsResults m.params pointers m.rets (results m args) (numbers (scalar_results m.rets)) end.mem (argument_registers end)
+  pub has_results : HoldsResults m.params pointers m.rets (results m args) (numbers (scalar_results m.rets)) end.mem
+      (argument_registers end)
   pub saved : (r : ℕ) → IsSaved r → register end.regs r ≡ register s.regs r
-  pub others : (address : ℕ) → (Within (stack_range stack s) address → ⊥) → (InReturned m.params (call_of m args pointers) m.rets address → ⊥)
-      → get end.mem address ≡ get s.mem address
+  pub others : (address : ℕ) → (Within (stack_range stack s) address → ⊥)
+      → (InReturned m.params (call_of m args pointers) m.rets address → ⊥) → get end.mem address ≡ get s.mem address
   pub same_addresses : (address : ℕ) → IsSome (get end.mem address) ↔ IsSome (get s.mem address)
 
 -- the code serves every call from a state that is ready and holds arguments that meet the model

@@ -1,0 +1,5 @@
+mod Answered
+mod Carried
+mod Disjoint
+mod Partial
+mod Served

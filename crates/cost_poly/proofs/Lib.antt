@@ -1,4 +1,4 @@
 mod Listed
-pub mod Places
 mod Products
 mod Values
+pub mod laws

@@ -8,7 +8,7 @@ use Rattle.std.proofs.lemmas.Bool.Decides.{nat_tests}
 use Rattle.cost_poly.specs.declared.term.Term.{Term}
 use Rattle.cost_poly.specs.declared.wide.Wide.{Wide}
 use Rattle.cost_poly.specs.Polynomial.{place_of, AreSymbols, are_symbols, make, can_follow, same_symbol, next_place, symbols_at, listed, greatest, term_degree, within, greatest_coefficient, coefficient, IsSmall, product, greatest_cubic, scaled}
-use Rattle.cost_poly.proofs.Places.{and_parts, next_append}
+use Rattle.cost_poly.proofs.laws.Places.{and_parts, next_append}
 
 both : {a b : Bool} → a ≡ true → b ≡ true → (a && b) ≡ true
 both {a = true} {b = b} p q = q

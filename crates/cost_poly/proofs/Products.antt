@@ -9,7 +9,7 @@ use Rattle.side_certs.specs.LinearForm.{LinearForm, share, terms_at, value_at}
 use Rattle.side_certs.specs.LinearForm as linear
 use Rattle.cost_poly.specs.declared.term.Term.{Term}
 use Rattle.cost_poly.specs.Polynomial.{BoundFrom, at, coefficient, coefficient_at, symbols_at, listed, greatest, form_part, product_of, product, cubic, greatest_cubic, are_entry_terms, is_entry_form}
-use Rattle.cost_poly.proofs.Places.{and_parts}
+use Rattle.cost_poly.proofs.laws.Places.{and_parts}
 use Rattle.cost_poly.proofs.Listed.{below_greatest}
 use Rattle.cost_poly.proofs.Values.{weight, total, listed_value, value_total}
 

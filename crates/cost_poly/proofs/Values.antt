@@ -4,7 +4,7 @@ use Rattle.std.proofs.lemmas.Bool.{eqb-true}
 use Rattle.std.proofs.lemmas.Bool.Decides.{nat_tests}
 use Rattle.cost_poly.specs.declared.term.Term.{Term}
 use Rattle.cost_poly.specs.Polynomial.{place_of, BoundFrom, make, same_symbol, value_of, at, coefficient, coefficient_at, symbols_at, listed, sum, greater}
-use Rattle.cost_poly.proofs.Places.{and_parts, place_below}
+use Rattle.cost_poly.proofs.laws.Places.{and_parts, place_below}
 use Rattle.cost_poly.proofs.Listed.{all_below, one_below, symbols_same, symbols_found, are_of}
 
 unfoldable pub weight : List ℕ → ℕ → ℕ

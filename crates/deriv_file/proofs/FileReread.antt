@@ -25,7 +25,7 @@ use Rattle.deriv_file.specs.Ranges.{argument_in_range, entry_in_range, cert_in_r
 use Rattle.deriv_file.specs.FileText.{whole, integer, array_of, entry_data, cert_data, step_parts, counts_part, node_data, file_data, text_of}
 use Rattle.deriv_file.specs.File.{File}
 use Rattle.deriv_file.proofs.Filling.{Fills}
-use Rattle.deriv_file.proofs.FileOf.{listed_size}
+use Rattle.deriv_file.proofs.laws.FileOf.{listed_size}
 use Rattle.deriv_file.proofs.Listing.{body_fills}
 use Rattle.deriv_file.proofs.NamesAscii.{name_utf8}
 use Rattle.deriv_file.proofs.NodeReread.{number_back, nodes_back, fills_room, sum_room, count_in_range}

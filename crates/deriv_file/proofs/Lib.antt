@@ -1,6 +1,5 @@
 pub mod Answered
 pub mod Counted
-pub mod FileOf
 pub mod FileReread
 pub mod Filling
 pub mod LineFeed
@@ -18,3 +17,4 @@ pub mod Stacks
 pub mod Standing
 pub mod Turns
 pub mod ValueReread
+pub mod laws

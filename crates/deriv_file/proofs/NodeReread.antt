@@ -8,7 +8,7 @@ use Rattle.side_certs.specs.declared.certificate.Cert.{Cert}
 use Rattle.side_certs.specs.declared.certificate.Entry.{Entry}
 use Rattle.deriv_tree.specs.declared.listed.Listed.{Listed}
 use Rattle.deriv_tree.specs.Shape.{blocks}
-use Rattle.deriv_tree.proofs.NamesRead.{name_is_read}
+use Rattle.deriv_tree.proofs.laws.NamesRead.{name_is_read}
 use Rattle.deriv_file.specs.declared.places.Place.{Place}
 use Rattle.deriv_file.specs.Numbers.{only_if, number_in, argument_of, arguments_of, counts_of}
 use Rattle.deriv_file.specs.CertificateList.{entry_of, entries_of, cert_of, certs_of}

@@ -1,2 +1,2 @@
-pub mod NamesRead
 pub mod Shallow
+pub mod laws

@@ -7,7 +7,7 @@ use Rattle.std.proofs.lemmas.List.{take_at, drop_at, drop-drop, length-append, l
 use Rattle.rup_base.specs.declared.arg.Kind.{Kind}
 use Rattle.rup_base.specs.declared.arg.Kind.TheVariants.{Word, Byte, Bytes, Words}
 use Rattle.side_certs.specs.LinearForm.{LinearForm}
-use Rattle.side_certs.proofs.Terms.{both}
+use Rattle.side_certs.proofs.laws.Terms.{both}
 use Rattle.cost_poly.specs.declared.term.Term.{Term}
 use Rattle.image_layout.specs.declared.image.Image.{Image}
 use Rattle.image_layout.specs.Spelling.{symbol_count, number, long, wide, parameter, form_term, requirement, symbol, bound_term, lists, code_offset, header_length, fixed_numbers, spelling, image_length, IsRequirement, IsWithinLimits, Layout}

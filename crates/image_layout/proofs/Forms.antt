@@ -5,7 +5,7 @@ use Rattle.std.specs.Option.{IsSome}
 use Rattle.std.proofs.lemmas.Bool.{le-leb, lt-ltb}
 use Rattle.std.proofs.Math.IntN.{one, *ℤ-zero, *ℤ-one, +ℤ_idr}
 use Rattle.side_certs.specs.LinearForm.{LinearForm, is_small, all_small, is_within, within, keep, merge, rises_from, plus, times, symbol}
-use Rattle.side_certs.proofs.Terms.{both, and_parts, all_small-append, rises_parts, rises_made}
+use Rattle.side_certs.proofs.laws.Terms.{both, and_parts, all_small-append, rises_parts, rises_made}
 use Rattle.image_layout.specs.Reading.{next_symbol}
 
 last_not_zero : (least : ℕ) (ts : List (ℕ × ℤ)) (u : ℕ × ℤ) → rises_from least (ts ++ u ∷ []) ≡ true → int_eq u.1 (pos 0) ≡ false

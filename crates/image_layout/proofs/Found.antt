@@ -4,7 +4,7 @@ use Rattle.std.specs.List.{flat_map}
 use Rattle.std.specs.Int.{next_multiple_of}
 use Rattle.std.proofs.lemmas.Bool.{le-leb, eqb-true}
 use Rattle.std.proofs.lemmas.List.{drop-drop, take-append-drop, length-append, length-take, length-drop, nil_from_length, append-nil}
-use Rattle.side_certs.proofs.Terms.{both, and_parts}
+use Rattle.side_certs.proofs.laws.Terms.{both, and_parts}
 use Rattle.image_layout.specs.Spelling.{symbol_count, number, parameter, requirement, symbol, bound_term, lists, code_offset, header_length, fixed_numbers, fixed_fields, spelling, image_length, IsWithinLimits, Layout}
 use Rattle.image_layout.specs.Reading.{field, first_wrong, word_at, Entries, fields_of, values_of, parameters, forms, results, bound_terms, params_of, params_end, requires_of, requires_end, rets_of, rets_end, bound_of, header_end, mark, all_zeros, image_of}
 use Rattle.image_layout.proofs.Stands.{IsBytes, word_stands, field_made, AllFit, IsFound, list_found}

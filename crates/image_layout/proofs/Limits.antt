@@ -11,10 +11,10 @@ use Rattle.std.proofs.lemmas.Map.Steps.{length-le_from_distinct_below}
 use Rattle.rup_base.specs.declared.arg.Kind.{Kind}
 use Rattle.rup_base.specs.declared.arg.Kind.TheVariants.{Word, Byte, Bytes, Words}
 use Rattle.side_certs.specs.LinearForm.{LinearForm}
-use Rattle.side_certs.proofs.Terms.{both, and_parts}
+use Rattle.side_certs.proofs.laws.Terms.{both, and_parts}
 use Rattle.cost_poly.specs.declared.term.Term.{Term}
 use Rattle.cost_poly.specs.Polynomial.{greatest_coefficient, place_of, next_place, AreSymbols, BoundFrom, are_symbols}
-use Rattle.cost_poly.proofs.Places.{next_append, length_below, place_below}
+use Rattle.cost_poly.proofs.laws.Places.{next_append, length_below, place_below}
 use Rattle.image_layout.specs.Spelling.{registers_of, is_array, IsParameter, TermsFrom, IsRequirement, ResultsFit}
 use Rattle.image_layout.specs.Reading.{next_symbol, scalars, has_array, is_some_array, is_entry_symbol, is_second}
 use Rattle.image_layout.proofs.Forms.{next_symbol-push}

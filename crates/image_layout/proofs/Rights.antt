@@ -3,7 +3,7 @@ use Rattle.std.proofs.Common.{◌≡◌, ℕ, ◌+◌, ◌-◌, ◌%◌, ◌<◌
 use Rattle.std.specs.Int.{w32, from_le_bytes, next_multiple_of}
 use Rattle.std.proofs.lemmas.Bool.{leb-true, le-leb, ltb-true, lt-ltb, eqb-true}
 use Rattle.std.proofs.lemmas.Bool.Decides.{nat_tests}
-use Rattle.side_certs.proofs.Terms.{both, and_parts}
+use Rattle.side_certs.proofs.laws.Terms.{both, and_parts}
 use Rattle.image_layout.specs.Spelling.{symbol_count}
 use Rattle.image_layout.specs.Reading.{field, first_wrong, word_at, fields_of, parameters, forms, results, bound_terms, params_of, params_end, requires_end, rets_end, header_end, count_fields, list_fields, mark, start_fields, offset_fields, offset_asked, code_field, tables_field, entry_field, stack_field, middle_fields, all_zeros, filling_field, rest_fields, fields}
 use Rattle.image_layout.proofs.Entries.{wrong-none}

@@ -9,7 +9,7 @@ use Rattle.std.proofs.lemmas.Nat.{le_bytes_4, le_bytes_8, from_le_bytes-to_le_by
 use Rattle.std.proofs.Math.Facts.{Fits-of_z}
 use Rattle.std.proofs.lemmas.Int.{to_z-of_z, of_z-to_z}
 use Rattle.side_certs.specs.LinearForm.{is_small}
-use Rattle.side_certs.proofs.Terms.{small_fits}
+use Rattle.side_certs.proofs.laws.Terms.{small_fits}
 use Rattle.image_layout.specs.Spelling.{number, wide, long}
 use Rattle.image_layout.specs.Reading.{Field, first_wrong, word_at, wide_at, long_at, Entries, fields_of, values_of, end_of}
 use Rattle.image_layout.proofs.Entries.{wrong-none}

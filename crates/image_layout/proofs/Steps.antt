@@ -9,7 +9,7 @@ use Rattle.std.proofs.lemmas.Bool.Decides.{nat_tests}
 use Rattle.rup_base.specs.declared.arg.Kind.{Kind}
 use Rattle.rup_base.specs.declared.arg.Kind.TheVariants.{Word, Byte, Bytes, Words}
 use Rattle.side_certs.specs.LinearForm.{LinearForm, is_small}
-use Rattle.side_certs.proofs.Terms.{both, and_parts}
+use Rattle.side_certs.proofs.laws.Terms.{both, and_parts}
 use Rattle.cost_poly.specs.declared.term.Term.{Term}
 use Rattle.cost_poly.specs.Polynomial.{goes_behind, greatest_coefficient}
 use Rattle.image_layout.specs.Spelling.{registers_of, number, long, wide, parameter, form_term, requirement, symbol, bound_term, IsParameter}

@@ -5,12 +5,12 @@ use Rattle.rup_base.specs.Gather.{all_true}
 use Rattle.sx_text.specs.declared.tree.Sx.{Sx}
 use Rattle.sx_text.specs.Forms.{place}
 use Rattle.sx_text.specs.Spelling.{bare}
-use Rattle.sx_text.proofs.Layers.{bare-Atom, bare-Kids}
-use Rattle.sx_text.proofs.Inversion.{list_of, atom_of}
-use Rattle.sx_text.proofs.Atoms.{and_parts}
+use Rattle.sx_text.proofs.laws.Layers.{bare-Atom, bare-Kids}
+use Rattle.sx_text.proofs.laws.Inversion.{list_of, atom_of}
+use Rattle.sx_text.proofs.laws.Atoms.{and_parts}
 use Rattle.model_reader.specs.Parts.{Kind, Reading, each}
 use Rattle.model_reader.specs.Reading.{reading, atom_reading, list_reading}
-use Rattle.model_reader.proofs.Readings.{reading-Atom, reading-Kids}
+use Rattle.model_reader.proofs.laws.Readings.{reading-Atom, reading-Kids}
 use Rattle.model_printer.specs.Printing.{atom, list, worded}
 
 -- what is so of every reading of an atom is so of one in another place

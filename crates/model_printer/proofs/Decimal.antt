@@ -10,7 +10,7 @@ use Rattle.std.specs.List.{list_all}
 use Rattle.rup_base.specs.Name.{is_name, is_word, begins_name, continues_name}
 use Rattle.sx_text.specs.Bytes.{in_atom}
 use Rattle.sx_text.specs.Spelling.{is_atom}
-use Rattle.sx_text.proofs.Atoms.{and_parts}
+use Rattle.sx_text.proofs.laws.Atoms.{and_parts}
 use Rattle.model_reader.specs.Numbers.{number, numeral}
 use Rattle.model_reader.proofs.Numerals.{numeral_no_digit}
 

@@ -4,7 +4,7 @@ use Rattle.std.specs.Fmt.{decimal}
 use Rattle.rup_base.specs.declared.arg.Place.{Place}
 use Rattle.sx_text.specs.declared.tree.Sx.{Sx}
 use Rattle.sx_text.specs.Spelling.{bare}
-use Rattle.sx_text.proofs.Atoms.{and_parts}
+use Rattle.sx_text.proofs.laws.Atoms.{and_parts}
 use Rattle.model_syntax.specs.declared.stmt.Lin.{Lin, Lin-F, ind-Lin, map-Lin, roll-Lin, fold-roll-Lin}
 use Rattle.model_syntax.specs.declared.stmt.Lin.TheOpen as l
 use Rattle.model_syntax.specs.declared.stmt.Lin.TheVariants as v

@@ -6,7 +6,7 @@ use Rattle.rup_base.specs.Name.{is_name}
 use Rattle.rup_base.specs.Gather.{all_true}
 use Rattle.sx_text.specs.declared.tree.Sx.{Sx}
 use Rattle.sx_text.specs.Spelling.{bare}
-use Rattle.sx_text.proofs.Atoms.{and_parts}
+use Rattle.sx_text.proofs.laws.Atoms.{and_parts}
 use Rattle.model_syntax.specs.declared.program.Len.{Len}
 use Rattle.model_syntax.specs.declared.program.Len.TheVariants.{Fixed, Named}
 use Rattle.model_syntax.specs.declared.program.Param.{Param}

@@ -4,14 +4,14 @@ use Rattle.rup_base.specs.Gather.{all_true}
 use Rattle.sx_text.specs.declared.tree.Sx.{Sx}
 use Rattle.sx_text.specs.Forms.{read, deepest}
 use Rattle.sx_text.specs.Spelling.{levels}
-use Rattle.sx_text.proofs.Printed.{printed_is_read}
+use Rattle.sx_text.proofs.laws.Printed.{printed_is_read}
 use Rattle.model_syntax.specs.declared.program.Model.{Model}
 use Rattle.model_syntax.specs.Limits.{Within}
 use Rattle.model_syntax.specs.Spelling.{Spellable, stmt_spellable}
 use Rattle.model_syntax.specs.Formed.{model_formed}
 use Rattle.model_printer.specs.Printing as printing
 use Rattle.model_reader.specs.Reading.{reading, read_model, limited}
-use Rattle.model_reader.proofs.Exact.{within_limits}
+use Rattle.model_reader.proofs.laws.Exact.{within_limits}
 use Rattle.model_printer.proofs.ModelBack.{model_back}
 use Rattle.model_printer.proofs.Spelled.{model_spelled}
 

@@ -6,8 +6,8 @@ use Rattle.rup_base.specs.Gather.{all_true}
 use Rattle.sx_text.specs.declared.tree.Sx.{Sx}
 use Rattle.sx_text.specs.Forms.{place}
 use Rattle.sx_text.specs.Spelling.{is_atom, is_spelled}
-use Rattle.sx_text.proofs.Atoms.{and_parts}
-use Rattle.sx_text.proofs.Layers.{is_spelled-Atom, is_spelled-Kids}
+use Rattle.sx_text.proofs.laws.Atoms.{and_parts}
+use Rattle.sx_text.proofs.laws.Layers.{is_spelled-Atom, is_spelled-Kids}
 use Rattle.model_syntax.specs.declared.expr.Op.{Op}
 use Rattle.model_syntax.specs.declared.expr.Op.TheVariants.{Add, Sub, Mul, Mulhuu, Divu, Remu, And, Or, Xor, Shl, Shr, Sar}
 use Rattle.model_syntax.specs.declared.expr.Cmp.{Cmp}

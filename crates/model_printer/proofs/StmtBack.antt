@@ -5,7 +5,7 @@ use Rattle.rup_base.specs.Name.{is_name}
 use Rattle.rup_base.specs.Gather.{all_true}
 use Rattle.sx_text.specs.declared.tree.Sx.{Sx}
 use Rattle.sx_text.specs.Spelling.{bare}
-use Rattle.sx_text.proofs.Atoms.{and_parts}
+use Rattle.sx_text.proofs.laws.Atoms.{and_parts}
 use Rattle.model_syntax.specs.declared.expr.Expr.{Expr}
 use Rattle.model_syntax.specs.declared.stmt.Le.{Le}
 use Rattle.model_syntax.specs.declared.stmt.Stmt.{Stmt, Stmt-F, ind-Stmt, map-Stmt, roll-Stmt, fold-roll-Stmt}

@@ -1,4 +1,3 @@
-pub mod Exact
 pub mod Fine
 pub mod FineExprs
 pub mod FineStmts
@@ -6,5 +5,5 @@ pub mod Gives
 pub mod Nth
 pub mod Numerals
 pub mod Read
-pub mod Readings
 pub mod WordNumbers
+pub mod laws

@@ -14,7 +14,7 @@ use Rattle.model_reader.specs.Parts.{Reading}
 use Rattle.model_reader.specs.Facts.{fact, facts_of}
 use Rattle.model_reader.specs.Models.{model, whole}
 use Rattle.model_reader.specs.Reading.{reading, atom_reading, list_reading}
-use Rattle.model_reader.proofs.Readings.{reading-Atom, reading-Kids}
+use Rattle.model_reader.proofs.laws.Readings.{reading-Atom, reading-Kids}
 use Rattle.model_reader.proofs.Gives.{Gives, given, refused, ◌⊳◌}
 use Rattle.model_reader.proofs.Fine.{IsFine, AreFine, no_more, IsExpr, IsFact, IsModel, AreFacts, name_gives, name_part, each_passes, behind_gives, nth_gives}
 use Rattle.model_reader.proofs.FineExprs.{atom_expr_gives, list_expr_gives, table_gives, atom_side_gives, list_side_gives, list_fact_gives}

@@ -1,13 +1,11 @@
 pub mod Hex
 pub mod Given
-pub mod Places
 pub mod Values
 pub mod Forms
 pub mod Symbols
-pub mod Meeting
 pub mod Memory
 pub mod Loaded
-pub mod Served
 pub mod Shapes
 pub mod Likeness
 pub mod Exact
+pub mod laws

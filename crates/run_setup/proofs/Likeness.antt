@@ -36,7 +36,7 @@ use Rattle.run_setup.specs.Arguments.{array_limit}
 use Rattle.run_setup.specs.Judging.{size_of, total_size}
 use Rattle.model_syntax.specs.Entries.{param_name, number_among, result_place}
 use Rattle.run_setup.proofs.Symbols.{among_before, among_last, among_none, none_before, declare_is, registers_is, AllFit}
-use Rattle.run_setup.proofs.Meeting.{fit_all, counts_ok}
+use Rattle.run_setup.proofs.laws.Meeting.{fit_all, counts_ok}
 use Rattle.run_setup.proofs.Shapes.{type_same, HasShape, array_of, len_of, Shaped, body_keeps}
 
 -- an array has the kind and the length of another

@@ -22,8 +22,8 @@ use Rattle.rv_machine.specs.Machines.{IsMachine}
 use Rattle.run_setup.specs.Laws.{LoadedIsReady}
 use Rattle.run_setup.proofs.Memory.{Region, all_map, all_both, all_split, all_of_map, all_stand, range_of, mapped, set_before, set_there}
 use Rattle.image_layout.proofs.laws.Length.{params_most, image_small}
-use Rattle.run_setup.proofs.Places.{words_size, aligned_near, aligned_whole, end_bound, end_grows, arrays_rise, values_few}
-use Rattle.run_setup.proofs.Meeting.{AllOfKind, fitting}
+use Rattle.run_setup.proofs.laws.Places.{words_size, aligned_near, aligned_whole, end_bound, end_grows, arrays_rise, values_few}
+use Rattle.run_setup.proofs.laws.Meeting.{AllOfKind, fitting}
 
 length_of_kind : (kinds : List Kind) (args : List Arg) → AllOfKind kinds args → length args ≡ length kinds
 length_of_kind [] [] fit = refl

@@ -12,7 +12,7 @@ use Rattle.std.proofs.lemmas.Option.{slice_get-get_or, slice_get_within}
 use Rattle.rv_memory.specs.Bytes.{numbered, entries, bytes_of}
 use Rattle.rv_memory.specs.Ranges.{Bytes, Stands, Range, IsMapped}
 use Rattle.run_setup.specs.Loading.{set_from, AreBytes}
-use Rattle.run_setup.proofs.Places.{Rises}
+use Rattle.run_setup.proofs.laws.Places.{Rises}
 
 abbrev pub Region : Type 0
 Region = ℕ × List ℕ

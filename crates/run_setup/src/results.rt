@@ -89,7 +89,7 @@ fn array_at(
     }
 }
 
-#[tactic(auto, using(crate::proofs::Places::total_before, crate::proofs::Places::size_at))]
+#[tactic(auto, using(crate::proofs::laws::Places::total_before, crate::proofs::laws::Places::size_at))]
 fn array_in_place(
     alloc: Global,
     mem: &Memory,

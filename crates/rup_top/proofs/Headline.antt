@@ -5,7 +5,7 @@ use Rattle.rup_base.specs.declared.fail.Fail.TheVariants.{Refused}
 use Rattle.rup_base.specs.declared.refusal.Refusal.{Refusal}
 use Rattle.rup_base.specs.declared.refusal.Refusal.TheVariants.{TooLong}
 use Rattle.rup_io.specs.Files.{file_of}
-use Rattle.deriv_file.proofs.FileOf.{reads_exact, file_is_one}
+use Rattle.deriv_file.proofs.laws.FileOf.{reads_exact, file_is_one}
 use Rattle.deriv_tree.specs.declared.tree.Derivation.{Derivation}
 use Rattle.model_syntax.specs.declared.program.Model.{Model}
 use Rattle.plain_rules.specs.Derived.{FirstFault}

@@ -20,8 +20,8 @@ use Rattle.run_setup.specs.Laws.{Serves}
 use Rattle.run_setup.specs.Loading.{loaded, start_state}
 use Rattle.run_setup.specs.Reading.{GivesFrom, Gives, RefusesFrom, ReadsOne, AllGive}
 use Rattle.run_setup.specs.Results.{lines_of}
-use Rattle.run_setup.proofs.Meeting.{judged_is_met}
-use Rattle.run_setup.proofs.Served.{good_is_served}
+use Rattle.run_setup.proofs.laws.Meeting.{judged_is_met}
+use Rattle.run_setup.proofs.laws.Served.{good_is_served}
 use Rattle.rup_top.specs.declared.answer.Answer.{Answer}
 use Rattle.rup_top.specs.Answer.{done}
 use Rattle.rup_top.specs.Clauses.{Sunk, Read, Delivers, Ends}

@@ -11,7 +11,7 @@ use Rattle.side_certs.specs.declared.certificate.Cert.{Cert}
 use Rattle.side_certs.specs.declared.certificate.Entry.{Entry}
 use Rattle.side_certs.specs.LinearForm.{LinearForm, symbol, below, share, coefficient, terms_at, value_at}
 use Rattle.side_certs.specs.Closes.{greatest_multiplier, most_entries, form_of, named, all_named, in_range, is_enough, multiple, summed, left, number_at, Closes, cancels, cancels_in, cancels_all, rest_of, leaves_number, closes, Holds}
-use Rattle.side_certs.proofs.Terms.{both, and_parts}
+use Rattle.side_certs.proofs.laws.Terms.{both, and_parts}
 use Rattle.side_certs.proofs.laws.Products.{sum_times, times_sum, times_times, not_below, product_not_below}
 
 rest_is : {X : Type 0} (x : X) (xs : List X) → take (length (x ∷ xs) - 1) (drop 1 (x ∷ xs)) ≡ xs

@@ -1,2 +1,2 @@
 mod Cancelling
-pub mod Terms
+pub mod laws

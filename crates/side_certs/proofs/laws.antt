@@ -4,4 +4,5 @@ pub mod Known
 pub mod Limits
 pub mod Products
 pub mod Sums
+pub mod Terms
 pub mod Values

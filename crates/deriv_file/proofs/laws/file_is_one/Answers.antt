@@ -1,4 +1,4 @@
-use Rattle.deriv_file.proofs.FileOf as lemma
+use Rattle.deriv_file.proofs.laws.FileOf as lemma
 use Rattle.deriv_file.proofs.laws.file_is_one.Goals as goal
 
 pub returns : goal.returns

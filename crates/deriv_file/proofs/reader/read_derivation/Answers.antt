@@ -1,4 +1,4 @@
-use Rattle.deriv_file.proofs.FileOf.{reads_file, reads_exact, reads_whole}
+use Rattle.deriv_file.proofs.laws.FileOf.{reads_file, reads_exact, reads_whole}
 use Rattle.deriv_file.proofs.reader.read_derivation.Goals as goal
 
 pub returns : goal.returns

@@ -1,4 +1,4 @@
-use Rattle.model_reader.proofs.Exact.{answered_only, answered_all, answered_spellable, answered_formed}
+use Rattle.model_reader.proofs.laws.Exact.{answered_only, answered_all, answered_spellable, answered_formed}
 use Rattle.model_reader.proofs.reader.read_model.Goals as goal
 
 pub returns : goal.returns

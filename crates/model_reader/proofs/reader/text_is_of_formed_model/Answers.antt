@@ -1,4 +1,4 @@
-use Rattle.model_reader.proofs.Exact.{text_is_fine}
+use Rattle.model_reader.proofs.laws.Exact.{text_is_fine}
 use Rattle.model_reader.proofs.reader.text_is_of_formed_model.Goals as goal
 
 pub returns : goal.returns

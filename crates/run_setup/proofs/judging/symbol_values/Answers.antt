@@ -1,4 +1,4 @@
-use Rattle.run_setup.proofs.Places.{symbols_done}
+use Rattle.run_setup.proofs.laws.Places.{symbols_done}
 use Rattle.run_setup.proofs.judging.symbol_values.Goals as goal
 
 pub returns : goal.returns

@@ -1,4 +1,4 @@
-use Rattle.run_setup.proofs.Places.{total_done}
+use Rattle.run_setup.proofs.laws.Places.{total_done}
 use Rattle.run_setup.proofs.judging.total_size.Goals as goal
 
 pub returns : goal.returns

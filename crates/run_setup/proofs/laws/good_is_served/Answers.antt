@@ -1,4 +1,4 @@
-use Rattle.run_setup.proofs.Served.{good_is_served}
+use Rattle.run_setup.proofs.laws.Served.{good_is_served}
 use Rattle.run_setup.proofs.laws.good_is_served.Goals as goal
 
 pub returns : goal.returns

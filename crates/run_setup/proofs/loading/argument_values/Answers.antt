@@ -1,4 +1,4 @@
-use Rattle.run_setup.proofs.Places.{values_done}
+use Rattle.run_setup.proofs.laws.Places.{values_done}
 use Rattle.run_setup.proofs.loading.argument_values.Goals as goal
 
 pub returns : goal.returns

@@ -2,7 +2,7 @@ use Rattle.std.proofs.Common.{subst}
 use Rattle.std.specs.List.{AllByRecursion}
 use Rattle.run_setup.specs.Loading.{AreBytes}
 use Rattle.run_setup.proofs.Memory.{bytes_held}
-use Rattle.run_setup.proofs.Places.{regions_disjoint, regions_end}
+use Rattle.run_setup.proofs.laws.Places.{regions_disjoint, regions_end}
 use Rattle.run_setup.proofs.loading.memory.Goals as goal
 
 pub new-requires-clause-disjoint : goal.new-requires-clause-disjoint

@@ -1,5 +1,5 @@
 use Rattle.std.proofs.Common.{arith}
-use Rattle.run_setup.proofs.Places.{values_few}
+use Rattle.run_setup.proofs.laws.Places.{values_few}
 use Rattle.run_setup.proofs.loading.registers.Goals as goal
 
 pub set_from-requires : goal.set_from-requires

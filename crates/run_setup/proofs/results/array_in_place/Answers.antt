@@ -1,7 +1,7 @@
 use Rattle.std.proofs.Common.{◌≡◌, take, ap, ◌∙◌, arith}
 use Rattle.std.proofs.lemmas.Grind.{common_steps}
 use Rattle.run_setup.specs.Loading.{aligned, end_of}
-use Rattle.run_setup.proofs.Places.{total_before, total_parts, few_before, aligned_near, array_is_at}
+use Rattle.run_setup.proofs.laws.Places.{total_before, total_parts, few_before, aligned_near, array_is_at}
 use Rattle.run_setup.proofs.results.array_in_place.Goals as goal
 
 pub end_of-requires : goal.end_of-requires

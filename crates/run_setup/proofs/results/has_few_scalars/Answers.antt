@@ -1,4 +1,4 @@
-use Rattle.run_setup.proofs.Places.{scalars_few}
+use Rattle.run_setup.proofs.laws.Places.{scalars_few}
 use Rattle.run_setup.proofs.results.has_few_scalars.Goals as goal
 
 pub returns : goal.returns

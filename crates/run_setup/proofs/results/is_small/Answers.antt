@@ -1,6 +1,6 @@
 use Rattle.std.proofs.Common.{arith}
 use Rattle.image_layout.proofs.laws.Length.{params_most}
-use Rattle.run_setup.proofs.Places.{judged_small}
+use Rattle.run_setup.proofs.laws.Places.{judged_small}
 use Rattle.run_setup.proofs.results.is_small.Goals as goal
 
 pub returns-clause-few : goal.returns-clause-few

@@ -1,5 +1,5 @@
 use Rattle.std.proofs.Common.{arith}
-use Rattle.run_setup.proofs.Places.{judged_small}
+use Rattle.run_setup.proofs.laws.Places.{judged_small}
 use Rattle.rup_top.proofs.run_command.bound_at.Goals as goal
 
 pub symbol_values-requires : goal.symbol_values-requires

@@ -2,7 +2,7 @@ use Rattle.std.proofs.Common.{◌≡◌, ◌+◌, refl, sym, ap, ◌∙◌, rule
 use Rattle.std.specs.Int.{w128}
 use Rattle.std.proofs.lemmas.Int.{to_z-of_z}
 use Rattle.side_certs.specs.LinearForm.{within}
-use Rattle.side_certs.proofs.Terms.{no_room, put_keeps, next_rises}
+use Rattle.side_certs.proofs.laws.Terms.{no_room, put_keeps, next_rises}
 use Rattle.side_certs.proofs.laws.Sums.{onward, onward_zero, next_whole, end_whole}
 use Rattle.side_certs.proofs.combining.judged.Goals as goal
 

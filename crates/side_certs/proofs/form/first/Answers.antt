@@ -2,7 +2,7 @@ use Rattle.std.proofs.Common.{◌≡◌, ◌+ℤ◌, pos, slice_index_or, SFits,
 use Rattle.std.specs.Int.{w64, w128}
 use Rattle.std.proofs.lemmas.Bool.{ltb-false}
 use Rattle.std.proofs.lemmas.Int.{to_z-of_z}
-use Rattle.side_certs.proofs.Terms.{equal_symbols}
+use Rattle.side_certs.proofs.laws.Terms.{equal_symbols}
 use Rattle.side_certs.proofs.form.first.Goals as goal
 
 pub returns-then-t-u-2 : goal.returns-then-t-u-2

@@ -1,4 +1,4 @@
-use Rattle.sx_text.proofs.Printed.{printed_is_read}
+use Rattle.sx_text.proofs.laws.Printed.{printed_is_read}
 use Rattle.sx_text.proofs.round_trip.printed_form_is_read.Goals as goal
 
 pub returns : goal.returns

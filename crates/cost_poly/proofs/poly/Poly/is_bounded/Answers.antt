@@ -1,4 +1,4 @@
-use Rattle.cost_poly.proofs.Places.{coefficients_small}
+use Rattle.cost_poly.proofs.laws.Places.{coefficients_small}
 use Rattle.cost_poly.proofs.poly.Poly.is_bounded.Goals as goal
 
 pub returns-clause-coefficients : goal.returns-clause-coefficients

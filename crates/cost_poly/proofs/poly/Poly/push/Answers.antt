@@ -2,7 +2,7 @@ use Rattle.std.proofs.Common.{◌≡◌, ◌<◌, sym, ap, ◌∙◌, ◌++◌, 
 use Rattle.std.proofs.lemmas.List.{take_more_set}
 use Rattle.cost_poly.specs.declared.term.Term.{Term}
 use Rattle.cost_poly.specs.Polynomial.{are_symbols, make}
-use Rattle.cost_poly.proofs.Places.{has_room, pushed_bound}
+use Rattle.cost_poly.proofs.laws.Places.{has_room, pushed_bound}
 use Rattle.cost_poly.proofs.poly.Poly.push.Goals as goal
 
 pub bounds-self-inside-self-inside : goal.bounds-self-inside-self-inside

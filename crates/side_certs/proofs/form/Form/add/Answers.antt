@@ -2,7 +2,7 @@ use Rattle.std.proofs.Common.{◌≡◌, true, List, ℕ, ℤ, sym, ap, ◌∙�
 use Rattle.std.specs.Int.{w128}
 use Rattle.std.proofs.lemmas.Int.{to_z-of_z}
 use Rattle.side_certs.specs.LinearForm.{plus, merge, rises_from}
-use Rattle.side_certs.proofs.Terms.{no_room, put_keeps, next_rises, merge_rises}
+use Rattle.side_certs.proofs.laws.Terms.{no_room, put_keeps, next_rises, merge_rises}
 use Rattle.side_certs.proofs.form.Form.add.Goals as goal
 
 pub returns-then-not-push : goal.returns-then-not-push

@@ -1,7 +1,7 @@
 use Rattle.std.proofs.Common.{◌∙◌, pos, slice_index_or, SFits, rules}
 use Rattle.std.specs.Int.{w64}
 use Rattle.std.proofs.lemmas.Int.{to_z-of_z}
-use Rattle.side_certs.proofs.Terms.{coefficient_found}
+use Rattle.side_certs.proofs.laws.Terms.{coefficient_found}
 use Rattle.side_certs.proofs.form.Form.coefficient.Goals as goal
 
 pub returns-then-term-s-clause-coefficient : goal.returns-then-term-s-clause-coefficient

@@ -3,7 +3,7 @@ use Rattle.std.specs.Int.{w64, w128}
 use Rattle.std.specs.Ordering.{int_eq}
 use Rattle.std.proofs.lemmas.Int.{to_z-of_z}
 use Rattle.side_certs.specs.LinearForm.{LinearForm, is_small, rises_from, keep}
-use Rattle.side_certs.proofs.Terms.{full, within_more, rises_more, small_fits}
+use Rattle.side_certs.proofs.laws.Terms.{full, within_more, rises_more, small_fits}
 use Rattle.side_certs.proofs.form.Form.push.Goals as goal
 
 pub returns-then-self-eq-MOST_TERMS-clause-room : goal.returns-then-self-eq-MOST_TERMS-clause-room

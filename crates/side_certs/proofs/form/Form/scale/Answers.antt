@@ -3,7 +3,7 @@ use Rattle.std.specs.Int.{w64, w128}
 use Rattle.std.proofs.lemmas.Int.{to_z-of_z}
 use Rattle.std.proofs.lemmas.List.{append-nil}
 use Rattle.side_certs.specs.LinearForm.{times, terms_times, within, rises_from}
-use Rattle.side_certs.proofs.Terms.{no_room, put_keeps, whole_is, next_rises, times_rise}
+use Rattle.side_certs.proofs.laws.Terms.{no_room, put_keeps, whole_is, next_rises, times_rise}
 use Rattle.side_certs.proofs.form.Form.scale.Goals as goal
 
 pub returns-then-not-push : goal.returns-then-not-push

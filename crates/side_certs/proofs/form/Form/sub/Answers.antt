@@ -1,6 +1,6 @@
 use Rattle.std.proofs.Common.{ap, ◌∙◌}
 use Rattle.side_certs.specs.LinearForm.{plus, within}
-use Rattle.side_certs.proofs.Terms.{negated_within, some_is, not_none}
+use Rattle.side_certs.proofs.laws.Terms.{negated_within, some_is, not_none}
 use Rattle.side_certs.proofs.form.Form.sub.Goals as goal
 
 pub returns-in_err-scale : goal.returns-in_err-scale

@@ -6,7 +6,7 @@ use Rattle.sx_text.specs.declared.tree.Sx.TheVariants.{Atom, Kids, rolls-Atom, r
 use Rattle.sx_text.specs.declared.tree.Sx.TheOpen as x
 use Rattle.sx_text.specs.Forms.{place}
 use Rattle.sx_text.specs.Spelling.{bare}
-use Rattle.sx_text.proofs.Layers.{bare-Atom, bare-Kids}
+use Rattle.sx_text.proofs.laws.Layers.{bare-Atom, bare-Kids}
 
 out-Atom : (p : Place) (t : List ℕ) → out-Sx (Atom p t) ≡ x.Atom p t
 out-Atom p t = ap out-Sx (sym (rolls-Atom p t)) ∙ out-roll-Sx (x.Atom p t)

@@ -10,8 +10,8 @@ use Rattle.sx_text.specs.declared.tree.Sx.TheOpen as x
 use Rattle.sx_text.specs.Bytes.{word_length}
 use Rattle.sx_text.specs.Forms.{Rest, rest_of, fault, read, place, opened, closed, deepest}
 use Rattle.sx_text.specs.Spelling.{text, levels, is_spelled, bare, spaced, behind_spaces, IsReadBack}
-use Rattle.sx_text.proofs.Atoms.{and_parts, rest_of-atom, fault-atom}
-use Rattle.sx_text.proofs.Layers.{text-Atom, text-Kids, levels-Kids, is_spelled-Atom, is_spelled-Kids, bare-Atom, bare-Kids}
+use Rattle.sx_text.proofs.laws.Atoms.{and_parts, rest_of-atom, fault-atom}
+use Rattle.sx_text.proofs.laws.Layers.{text-Atom, text-Kids, levels-Kids, is_spelled-Atom, is_spelled-Kids, bare-Atom, bare-Kids}
 
 -- two rests with the same forms but for places
 abbrev Same : Rest → Rest → Type 0

@@ -36,8 +36,8 @@ use Rattle.run_setup.specs.Digits.{two_digits}
 use Rattle.run_setup.specs.Ready.{array_bytes}
 use Rattle.run_setup.specs.Good.{register_of, HasResults}
 use Rattle.run_setup.specs.Laws.{GoodIsServed, step_limit}
-use Rattle.run_setup.proofs.Places.{words_size}
-use Rattle.run_setup.proofs.Meeting.{AllOfKind, fitting}
+use Rattle.run_setup.proofs.laws.Places.{words_size}
+use Rattle.run_setup.proofs.laws.Meeting.{AllOfKind, fitting}
 use Rattle.run_setup.proofs.Exact.{HasWords, results_fit}
 use Rattle.run_setup.proofs.Likeness.{IsLike, AreLike, results_like}
 use Rattle.run_setup.proofs.Loaded.{Hold, first_held, rest_held, rest_held_2, no_fit, registers_hold, ra_is, loaded_is_ready}

@@ -37,7 +37,7 @@ use Rattle.model_syntax.specs.Entries.{entry_names, number_among}
 use Rattle.run_setup.specs.Good.{side, side_step, requirement}
 use Rattle.run_setup.specs.Laws.{JudgedIsMet}
 use Rattle.run_setup.proofs.Forms.{sum_value, multiple_value, constant_value, symbol_value, difference_test}
-use Rattle.run_setup.proofs.Places.{and_ok, count_ok, size_ok}
+use Rattle.run_setup.proofs.laws.Places.{and_ok, count_ok, size_ok}
 use Rattle.run_setup.proofs.Symbols.{Stand, AllFit, start_stands}
 
 -- Requirements.

@@ -1,0 +1,4 @@
+pub mod Atoms
+pub mod Inversion
+pub mod Layers
+pub mod Printed

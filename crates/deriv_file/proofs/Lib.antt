@@ -17,4 +17,3 @@ pub mod Stacks
 pub mod Standing
 pub mod Turns
 pub mod ValueReread
-pub mod laws

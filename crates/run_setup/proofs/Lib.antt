@@ -8,4 +8,3 @@ pub mod Loaded
 pub mod Shapes
 pub mod Likeness
 pub mod Exact
-pub mod laws

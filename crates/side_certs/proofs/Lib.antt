@@ -1,2 +1,1 @@
 mod Cancelling
-pub mod laws

@@ -284,27 +284,27 @@ module _ (s : State) where
   arrays_apart l (q ∷ qs) (v ∷ vs) fit all j k differ =
       by j k differ (arrays_apart (l + start.registers_of q) qs vs fit.1 (rest_apart q v (10 + l) rest split))
     where
-    rest : List Range
-    rest = ready.array_ranges (map kind_of qs) vs (10 + (l + start.registers_of q)) s
+      rest : List Range
+      rest = ready.array_ranges (map kind_of qs) vs (10 + (l + start.registers_of q)) s
 
-    split : AllApart (own q v (10 + l) ++ rest)
-    split = subst AllApart (next_ranges q qs v vs l) all
+      split : AllApart (own q v (10 + l) ++ rest)
+      split = subst AllApart (next_ranges q qs v vs l) all
 
-    from_first : (k : ℕ) → (length (fits.array_bytes (Some v)) ≡ 0) ⊎ (own q v (10 + l) ≡ array_range (10 + l) v s ∷ []) → Apart (place l (q ∷ qs) (v ∷ vs) 0) (place l (q ∷ qs) (v ∷ vs) (suc k))
-    from_first k (inl none) =
-        turned (place l (q ∷ qs) (v ∷ vs) (suc k)) (place l (q ∷ qs) (v ∷ vs) 0) (empty_apart (place l (q ∷ qs) (v ∷ vs) (suc k)) (place l (q ∷ qs) (v ∷ vs) 0) none)
-    from_first k (inr one) =
-        let apart = subst (λ (rs : List Range). AllApart (rs ++ rest)) one split in
-        let far = one_apart (array_range (10 + l) v s) (l + start.registers_of q) qs vs fit.1 apart.0 k in
-        subst (λ (x : Range). Apart x (place l (q ∷ qs) (v ∷ vs) (suc k))) (first_range l q qs v vs)
-        (subst (λ (y : Range). Apart (array_range (10 + l) v s) y) (next_place l q qs v vs k) far)
+      from_first : (k : ℕ) → (length (fits.array_bytes (Some v)) ≡ 0) ⊎ (own q v (10 + l) ≡ array_range (10 + l) v s ∷ []) → Apart (place l (q ∷ qs) (v ∷ vs) 0) (place l (q ∷ qs) (v ∷ vs) (suc k))
+      from_first k (inl none) =
+          turned (place l (q ∷ qs) (v ∷ vs) (suc k)) (place l (q ∷ qs) (v ∷ vs) 0) (empty_apart (place l (q ∷ qs) (v ∷ vs) (suc k)) (place l (q ∷ qs) (v ∷ vs) 0) none)
+      from_first k (inr one) =
+          let apart = subst (λ (rs : List Range). AllApart (rs ++ rest)) one split in
+          let far = one_apart (array_range (10 + l) v s) (l + start.registers_of q) qs vs fit.1 apart.0 k in
+          subst (λ (x : Range). Apart x (place l (q ∷ qs) (v ∷ vs) (suc k))) (first_range l q qs v vs)
+          (subst (λ (y : Range). Apart (array_range (10 + l) v s) y) (next_place l q qs v vs k) far)
 
-    by : (j k : ℕ) → j ≢ k → ((a b : ℕ) → a ≢ b → Apart (place (l + start.registers_of q) qs vs a) (place (l + start.registers_of q) qs vs b))
-        → Apart (place l (q ∷ qs) (v ∷ vs) j) (place l (q ∷ qs) (v ∷ vs) k)
-    by zero zero apart more = absurd (apart refl)
-    by zero (suc k) apart more = from_first k (own_is q v (10 + l) fit.0)
-    by (suc j) zero apart more = turned (place l (q ∷ qs) (v ∷ vs) 0) (place l (q ∷ qs) (v ∷ vs) (suc j)) (from_first j (own_is q v (10 + l) fit.0))
-    by (suc j) (suc k) apart more =
-        let inner = more j k (λ same_number. apart (ap suc same_number)) in
-        subst (λ (x : Range). Apart x (place l (q ∷ qs) (v ∷ vs) (suc k))) (next_place l q qs v vs j)
-        (subst (λ (y : Range). Apart (place (l + start.registers_of q) qs vs j) y) (next_place l q qs v vs k) inner)
+      by : (j k : ℕ) → j ≢ k → ((a b : ℕ) → a ≢ b → Apart (place (l + start.registers_of q) qs vs a) (place (l + start.registers_of q) qs vs b))
+          → Apart (place l (q ∷ qs) (v ∷ vs) j) (place l (q ∷ qs) (v ∷ vs) k)
+      by zero zero apart more = absurd (apart refl)
+      by zero (suc k) apart more = from_first k (own_is q v (10 + l) fit.0)
+      by (suc j) zero apart more = turned (place l (q ∷ qs) (v ∷ vs) 0) (place l (q ∷ qs) (v ∷ vs) (suc j)) (from_first j (own_is q v (10 + l) fit.0))
+      by (suc j) (suc k) apart more =
+          let inner = more j k (λ same_number. apart (ap suc same_number)) in
+          subst (λ (x : Range). Apart x (place l (q ∷ qs) (v ∷ vs) (suc k))) (next_place l q qs v vs j)
+          (subst (λ (y : Range). Apart (place (l + start.registers_of q) qs vs j) y) (next_place l q qs v vs k) inner)

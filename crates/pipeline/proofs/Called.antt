@@ -168,7 +168,7 @@ module _ (m : Model) (c : ModelCommand) (words tables : List ℕ) (stack : ℕ) 
       → IfOk (value.value m args) (λ rs. HasResults i.params i.rets rs 10 s gives.end)
   has_results args base s meets gives =
       let has : HasResults i.params i.rets (results m args) 10 s gives.end =
-        results_held m.params (pointers s) s gives.end (λ k. refl) m.rets (results m args) (numbers (scalar_results m.rets)) 0 (numbers_rise (scalar_results m.rets)) gives.has_results
+      results_held m.params (pointers s) s gives.end (λ k. refl) m.rets (results m args) (numbers (scalar_results m.rets)) 0 (numbers_rise (scalar_results m.rets)) gives.has_results
       in
       subst (λ r. IfOk r (λ rs. HasResults i.params i.rets rs 10 s gives.end)) (sym (value_is m args meets)) has
 

@@ -1,7 +1,12 @@
-pub mod Declared
-pub mod Required
-pub mod Returning
-pub mod Limits
-pub mod Arguments
-pub mod Called
-pub mod Finished
+mod Answered
+mod Carried
+mod Disjoint
+mod Partial
+mod Served
+mod Declared
+mod Required
+mod Returning
+mod Limits
+mod Arguments
+mod Called
+mod Finished

@@ -151,7 +151,7 @@ module _ (ps : List Param) (d end : Scope) (declared : types.declare_params ps [
       let many = many_is (look_up d p) owner.0 owner.1.0 in
       let found : IsArrayParam ps p = array_param ps d p many.element many.len declared many.is in
       let one : IsSeen (returned before ++ p ∷ []) (number_among p names) =
-        record { name = p; number = refl; inside = found.inside; far = λ x none. not_back x p (listed_parts x p (returned before) none).1 }
+      record { name = p; number = refl; inside = found.inside; far = λ x none. not_back x p (listed_parts x p (returned before) none).1 }
       in
       let both : AllByRecursion (IsSeen (returned before ++ p ∷ [])) (number_among p names ∷ seen) = (one, seen_behind (returned before) p seen all) in (
         (found.kind, found.at, found.array),

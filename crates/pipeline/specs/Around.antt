@@ -1,6 +1,5 @@
 -- The image around the code of a model.
 use Rattle.std.specs.Prelude.{◌≡◌, ℕ, true, List, map}
-use Rattle.rup_base.specs.declared.arg.Arg.{Arg}
 use Rattle.side_certs.specs.LinearForm.{LinearForm, is_within, rises_from}
 use Rattle.cost_poly.specs.declared.term.Term.{Term}
 use Rattle.model_syntax.specs.declared.program.Model.{Model}

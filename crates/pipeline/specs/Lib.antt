@@ -1,3 +1,3 @@
 pub mod Serves
-pub mod Written
 pub mod Around
+pub mod Written

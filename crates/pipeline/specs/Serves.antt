@@ -9,7 +9,7 @@ use Rattle.model_syntax.specs.declared.program.Model.{Model}
 use Rattle.model_syntax.specs.Types.{scalar_results}
 use Rattle.model_syntax.specs.Value.{Meets, results}
 use Rattle.sym_heap.specs.Fits.{Locals, call_of, entry_numbers, array_bytes}
-use Rattle.sym_heap.specs.Arrival.{HasArguments, AreApart}
+use Rattle.sym_heap.specs.Arrival.{HasArguments}
 use Rattle.model_command.specs.Computes.{HoldsResults, InReturned}
 use Rattle.model_command.specs.Measures.{numbers}
 use Rattle.model_command.specs.declared.command.ModelCommand.{ModelCommand}
@@ -34,23 +34,24 @@ array_ranges p qs vs pointers = []
 
 -- The call that starts in s returns: within the bound at the numbers of the entry symbols; with the scalar results in a0
 -- and a1 and the returned arrays where the arguments stand; and with all else outside the stack range as it was.
-pub record Gives (m : Model) (c : ModelCommand) (args : List Arg) (pointers : ℕ → ℕ) (words : List ℕ) (stack start : ℕ) (s : State) : Type 0 where
+pub record Gives (m : Model) (c : ModelCommand) (args : List Arg) (pointers : ℕ → ℕ) (words : List ℕ) (stack start : ℕ)
+    (s : State) : Type 0 where
   pub steps : ℕ
   pub end : State
   pub ran : after steps s ≡ Ok end
   pub back : end.pc ≡ register s.regs 1
   pub before : (j : ℕ) → j < steps → IsUnderWay words start s j
   pub in_time : steps ≤ at (entry_numbers m.params args) c.bound
-  pub has_results : HoldsResults m.params pointers m.rets (results m args) (numbers (scalar_results m.rets)) end.mem (argument_registers end)
+  pub has_results : HoldsResults m.params pointers m.rets (results m args) (numbers (scalar_results m.rets)) end.mem
+      (argument_registers end)
   pub saved : (r : ℕ) → IsSaved r → register end.regs r ≡ register s.regs r
-  pub others : (address : ℕ) → (Within (stack_range stack s) address → ⊥) → (InReturned m.params (call_of m args pointers) m.rets address → ⊥)
-      → get end.mem address ≡ get s.mem address
+  pub others : (address : ℕ) → (Within (stack_range stack s) address → ⊥)
+      → (InReturned m.params (call_of m args pointers) m.rets address → ⊥) → get end.mem address ≡ get s.mem address
   pub same_addresses : (address : ℕ) → IsSome (get end.mem address) ↔ IsSome (get s.mem address)
 
 -- the code serves every call from a state that is ready and holds arguments that meet the model
 abbrev pub Serves : Model → ModelCommand → List ℕ → List ℕ → ℕ → Type 0
 Serves m c words tables stack = (args : List Arg) (pointers : ℕ → ℕ) (image : Range) (start : ℕ) (s : State)
     → Meets m args → HasArguments 0 0 m.params args pointers s.mem (argument_registers s)
-    → AreApart (call_of m args pointers)
     → Ready words tables stack image start (array_ranges 0 m.params args pointers) s
     → Gives m c args pointers words stack start s

@@ -1,6 +1,8 @@
-//! From the command of a model to its image: what a device loads and calls, with the theorem that it is good.
+//! The passes in a row: from a command that computes a model to the bytes of an image that serves the model's calls.
 #![tactic(auto)]
 
-mod image;
+mod around;
+mod passes;
 
-pub use image::image_around;
+pub use around::image;
+pub use passes::machine_code;

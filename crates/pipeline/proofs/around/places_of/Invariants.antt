@@ -1,6 +1,6 @@
 use Rattle.std.proofs.Common.{◌≡◌, ◌++◌, map, length}
 use Rattle.model_syntax.specs.Entries.{result_place}
-use Rattle.pipeline.proofs.image.places_of.Given as goal
+use Rattle.pipeline.proofs.around.places_of.Given as goal
 
 -- what is left completes the places
 abbrev pub invariant-rets : goal.invariant-rets

@@ -2,6 +2,7 @@
 ghost use Rattle.std.specs.Prelude.{◌≡◌, ◌+◌, ◌*◌, ◌%◌, ◌≤◌, [], ◌∷◌, ◌++◌, map, length, IfOk, OnOk};
 ghost use Rattle.std.specs.List.{AllByRecursion};
 ghost use Rattle.bed_syntax.specs.Named.{cmd_names};
+ghost use Rattle.model_command.specs.Computes.{Computes};
 ghost use Rattle.model_command.specs.Measures.{IsMeasured, IsSmall};
 ghost use Rattle.model_syntax.specs.Entries.{number_among, param_name, result_place};
 ghost use Rattle.model_syntax.specs.Types.{Well};
@@ -13,6 +14,7 @@ ghost use Rattle.pipeline.specs.Around.{IsLimited};
 ghost use Rattle.pipeline.specs.Serves.{Serves};
 ghost use Rattle.pipeline.specs.Written.{Written, bytes_of};
 
+use crate::passes::machine_code;
 use bed_syntax::Weights;
 use image_layout::{Image, code_offset, write_image};
 use model_command::ModelCommand;
@@ -25,13 +27,21 @@ use side_certs::Form;
 use std::alloc::Global;
 use sym_heap::Ctx;
 
+/// The bytes of an image of a model, by a command that computes it. The error is want of memory alone.
+pub fn image(alloc: Global, m: &Typed, c: &ModelCommand) -> Result<Text, NoMemory>
+    requires computes { Computes Weights.LARGE m.now.inner c.now }
+    requires measured { IsMeasured Weights.LARGE m.now.inner c.now }
+    requires small { IsSmall c.now }
+
+    // The image is good for the model: called on any state that is ready, it returns within its bound with the value.
+    ensures written { IfOk result (λ bytes. Written m.now.inner c.now.command c.now.bound c.now.weight bytes) }
+{
+    let emitted = machine_code(alloc, m, c)?;
+    image_around(alloc, m, c, &emitted)
+}
+
 /// The bytes of the image of a model around code that serves it.
-pub fn image_around(
-    alloc: Global,
-    m: &Typed,
-    c: &ModelCommand,
-    e: &Emitted,
-) -> Result<Text, NoMemory>
+fn image_around(alloc: Global, m: &Typed, c: &ModelCommand, e: &Emitted) -> Result<Text, NoMemory>
     requires measured { IsMeasured Weights.LARGE m.now.inner c.now }
     requires small { IsSmall c.now }
     requires serves { Serves m.now.inner c.now (map word_of e.now.code) e.now.tables e.now.stack }
@@ -41,8 +51,6 @@ pub fn image_around(
     requires stack_small { e.now.stack ≤ 4096 }
     requires tables { length e.now.tables ≤ 131_072 }
     requires names { named_in e.now.code ≡ cmd_names c.now.command }
-
-    // The image is good for the model: called on any state that is ready, it returns within its bound with the value.
     ensures { IfOk result (λ bytes. Written m.now.inner c.now.command c.now.bound c.now.weight bytes) }
 {
     let image = image_of(alloc, m, c, e)?;
@@ -51,18 +59,13 @@ pub fn image_around(
 }
 
 /// The code with its tables, and around it the model's parameters, requirements and results.
-fn image_of(
-    alloc: Global,
-    m: &Typed,
-    c: &ModelCommand,
-    e: &Emitted,
-) -> Result<Image, NoMemory>
+fn image_of(alloc: Global, m: &Typed, c: &ModelCommand, e: &Emitted) -> Result<Image, NoMemory>
     requires measured { IsMeasured Weights.LARGE m.now.inner c.now }
     requires small { IsSmall c.now }
     ensures image { IfOk result (λ i. i ≡ around.image_around m.now.inner c.now.bound e.now.stack (bytes_of (map word_of e.now.code)) e.now.tables) }
     ensures limited { IfOk result (λ i. AllByRecursion IsLimited i.requires_) }
 {
-    let model = m.model();
+    let model = &m.inner;
     let params = m.kinds(alloc)?;
     let requirements = requirements_of(alloc, model)?;
     let rets = places_of(alloc, model.params.as_slice(), model.rets.as_slice())?;
@@ -107,11 +110,7 @@ fn copies_of(alloc: Global, forms: &[Form]) -> Result<List<Form>, NoMemory>
 }
 
 /// For each result the number of its array parameter, or None for a scalar.
-fn places_of(
-    alloc: Global,
-    params: &[Param],
-    rets: &[Ret],
-) -> Result<List<Option<u32>>, NoMemory>
+fn places_of(alloc: Global, params: &[Param], rets: &[Ret]) -> Result<List<Option<u32>>, NoMemory>
     requires { length params.now ≤ 8 }
     ensures { IfOk result (λ places. places ≡ map (result_place params.now) rets.now) }
 {

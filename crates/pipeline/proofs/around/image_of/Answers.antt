@@ -1,6 +1,6 @@
 use Rattle.bed_syntax.specs.declared.weights.TheConstants as weights
 use Rattle.pipeline.proofs.Limits.{short_lists}
-use Rattle.pipeline.proofs.image.image_of.Goals as goal
+use Rattle.pipeline.proofs.around.image_of.Goals as goal
 
 pub code_offset-requires : goal.code_offset-requires
 code_offset-requires c =

@@ -1,7 +1,7 @@
 use Rattle.std.proofs.Common.{◌≡◌, ◌++◌, map, length}
 use Rattle.rv_code.specs.Word.{word_of}
 use Rattle.pipeline.specs.Written.{bytes_of}
-use Rattle.pipeline.proofs.image.code_of.Given as goal
+use Rattle.pipeline.proofs.around.code_of.Given as goal
 
 -- what is left completes the bytes
 abbrev pub invariant-code : goal.invariant-code

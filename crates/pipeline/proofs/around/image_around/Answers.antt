@@ -1,6 +1,6 @@
 use Rattle.bed_syntax.specs.declared.weights.TheConstants as weights
 use Rattle.pipeline.proofs.Finished.{image_within, written}
-use Rattle.pipeline.proofs.image.image_around.Goals as goal
+use Rattle.pipeline.proofs.around.image_around.Goals as goal
 
 pub write_image-requires : goal.write_image-requires
 write_image-requires c =

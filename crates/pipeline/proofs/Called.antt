@@ -36,7 +36,7 @@ use Rattle.run_setup.proofs.laws.Standing.{code_stands, image_ends}
 use Rattle.pipeline.specs.Around.{image_around}
 use Rattle.pipeline.specs.Serves.{argument_registers, array_ranges, Gives, Serves}
 use Rattle.pipeline.specs.Written.{bytes_of}
-use Rattle.pipeline.proofs.Arguments.{same_bytes, same_size, numbers_are, has_arguments, ranges_are, arrays_apart}
+use Rattle.pipeline.proofs.Arguments.{same_bytes, same_size, numbers_are, has_arguments, ranges_are}
 use Rattle.pipeline.proofs.Limits.{params_formed, code_length, entry_is, entry_whole}
 use Rattle.pipeline.proofs.Required.{facts_fit}
 
@@ -161,8 +161,7 @@ module _ (m : Model) (c : ModelCommand) (words tables : List ℕ) (stack : ℕ) 
   gives_of args base s ready =
       let fit = fitting m args ready.meets in
       let has = has_arguments s 0 0 m.params args (pointers s) (params_formed m formed) fit ready.arguments ready.mapped.1.1 (points s) in
-      let apart = arrays_apart s 0 m.params args fit ready.apart.1.1 in
-      serves args (pointers s) (image_range i base) (base + i.entry) s ready.meets has apart (ready_code args base s ready)
+      serves args (pointers s) (image_range i base) (base + i.entry) s ready.meets has (ready_code args base s ready)
 
   has_results : (args : List Arg) (base : ℕ) (s : State) → Meets m args → (gives : Gives m c args (pointers s) words stack (base + i.entry) s)
       → IfOk (value.value m args) (λ rs. HasResults i.params i.rets rs 10 s gives.end)

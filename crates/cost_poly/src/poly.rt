@@ -52,6 +52,17 @@ impl Poly {
         }
     }
 
+    /// The polynomial again.
+    pub fn copy(&self) -> Poly
+        ensures { result ≡ self.now }
+    {
+        Poly {
+            count: self.count,
+            next: self.next,
+            slots: self.slots,
+        }
+    }
+
     /// `c` times the values of the symbols `a` and `b`, where they are named. None exactly where `c` passes the
     /// limit, a named symbol is 8 or more, `b` is named and `a` isn't, or `a` is after `b`.
     pub fn term(a: Option<u32>, b: Option<u32>, c: u64) -> Option<Poly>

@@ -16,19 +16,19 @@ pub fn image_length(i: &Image) -> u32
     code_offset(i) + i.code.len() as u32 + i.tables.len() as u32
 }
 
-/// The offset of the code from the image's start, in bytes.
-#[tactic(auto, using(crate::proofs::laws::Length::lists_small))]
+/// The offset of the code from the image's start, in bytes. It depends on the lists alone, and so is known before the
+/// entry, which lies behind it.
 pub fn code_offset(i: &Image) -> u32
-    requires { spec.IsWithinLimits i.now }
+    requires { length (spec.lists i.now) ≤ 450_000 }
     ensures { result ≡ spec.code_offset i.now }
 {
     (48 + lists_length(i)).next_multiple_of(16)
 }
 
 /// The length of the lists of parameters, requirements, results and terms of the bound.
-#[tactic(auto, using(crate::proofs::laws::Length::lists_few, crate::proofs::laws::Length::lists_size))]
+#[tactic(auto, using(crate::proofs::laws::Length::lists_size))]
 fn lists_length(i: &Image) -> u32
-    requires { spec.IsWithinLimits i.now }
+    requires { length (spec.lists i.now) ≤ 450_000 }
     ensures { result ≡ length (spec.lists i.now) }
 {
     8 * i.params.len() as u32

@@ -3,3 +3,10 @@ mod Carried
 mod Disjoint
 mod Partial
 mod Served
+mod Declared
+mod Required
+mod Returning
+mod Limits
+mod Arguments
+mod Called
+mod Finished

@@ -1,1 +1,3 @@
 pub mod Serves
+pub mod Around
+pub mod Written

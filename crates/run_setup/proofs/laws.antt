@@ -1,3 +1,4 @@
 pub mod Meeting
 pub mod Places
 pub mod Served
+pub mod Standing

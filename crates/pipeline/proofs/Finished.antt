@@ -13,6 +13,7 @@ use Rattle.model_syntax.specs.Types.{Well}
 use Rattle.rv_code.specs.Word.{word_of}
 use Rattle.rv_emit.specs.Names.{named_in}
 use Rattle.rv_emit.specs.declared.emission.Emitted.{Emitted}
+use Rattle.rv_emit.proofs.laws.WordNames.{words_named}
 use Rattle.image_layout.specs.declared.image.Image.{Image}
 use Rattle.image_layout.specs.Spelling.{Layout, IsWithinLimits}
 use Rattle.pipeline.specs.Around.{image_around, IsLimited}
@@ -44,8 +45,8 @@ written m c e i bytes well formed serves counted names is layout =
       version_is = refl;
       bound_is = refl;
       code_size = omega (arith, code_length (map word_of e.code), size, counted);
-      code = e.code;
+      words = map word_of e.code;
       code_is = refl;
-      names_are = names;
+      names_are = words_named e.code ∙ names;
       good = good m c (map word_of e.code) e.tables e.stack well formed serves;
     }

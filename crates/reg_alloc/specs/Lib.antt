@@ -1,3 +1,5 @@
 pub mod Kept
+pub mod Marks
 pub mod PlanOk
 pub mod Slots
+pub mod Visit

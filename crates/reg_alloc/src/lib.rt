@@ -2,7 +2,10 @@
 #![tactic(auto)]
 
 mod allocation;
+mod marks;
 mod plan;
+mod visit;
+mod watch;
 
 pub use allocation::allocate;
 pub use plan::{At, Plan};

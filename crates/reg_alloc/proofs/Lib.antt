@@ -1,2 +1,7 @@
+mod Answered
+mod Decided
+mod Exact
+mod Numbers
+mod OverPlaces
 mod Sets
 pub mod Next

@@ -1,6 +1,7 @@
 -- One step of a union, and its end.
 use Rattle.std.proofs.Common.{◌≡◌, refl, ap, ◌∙◌, subst, sym, arith, ℕ, zero, suc, ◌+◌, ◌<◌, ◌≤◌, Bool, true, false, ◌||◌, ◌&&◌, not, nat_eq, List, [], ◌∷◌, drop, length, ◌++◌, if◌then◌else◌}
 use Rattle.std.specs.Prelude.{slice_index_or}
+use Rattle.reg_alloc.specs.Check.{all_below}
 use Rattle.reg_alloc.specs.Marks.{Marks, either, below, alone_from}
 
 or_false : (b : Bool) → b ≡ (b || false)
@@ -67,3 +68,6 @@ done_at q x k (suc i) (p ∷ ps) l h = done_at q x k i ps l (omega arith)
 
 pub alone_done : (q x i : ℕ) (ps : List ℕ) (l : Marks) → length ps ≤ i → alone_from q x i (drop i ps) (drop i l) ≡ true
 alone_done q x i ps l h = done_at q x i i ps (drop i l) h
+
+pub all_below_next : (n : ℕ) (test : ℕ → Bool) → all_below (n + 1) test ≡ (all_below n test && test n)
+all_below_next n test = let e : n + 1 ≡ suc n = omega arith in ap (λ k. all_below k test) e

@@ -1,4 +1,6 @@
+pub mod Check
 pub mod Kept
+pub mod Liveness
 pub mod Marks
 pub mod PlanOk
 pub mod Slots

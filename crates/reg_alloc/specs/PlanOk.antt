@@ -1,6 +1,7 @@
 -- Which plans serve a code: of no two variables that are needed at once does one overwrite the other.
-use Rattle.std.specs.Prelude.{◌≡◌, ℕ, suc, ◌+◌, ◌<◌, Bool, true, false, ◌&&◌, ◌||◌, nat_eq, nat_lt, nat_le, List, length, Option, Some, None, slice_get}
+use Rattle.std.specs.Prelude.{◌≡◌, ℕ, suc, ◌+◌, ◌<◌, Bool, true, false, ◌&&◌, ◌||◌, nat_eq, nat_lt, nat_le, List, map, length, Option, Some, None, slice_get}
 use Rattle.std.specs.List.{AllByRecursion}
+use Rattle.rup_base.specs.Gather.{all_true}
 use Rattle.flat_lang.specs.declared.flat.Flat.{Flat}
 use Rattle.flat_lang.specs.Paths.{Step, some_takes, flat_steps, LiveAtStart}
 use Rattle.reg_alloc.specs.declared.plan.At.{At}
@@ -23,6 +24,6 @@ Clear places step = (x v : ℕ) → step.writes ≡ Some x → some_takes v step
 -- Said of the paths with at most n + 1 turns of each loop, for every n; each path is one of these.
 pub record PlanOk (flat : Flat) (plan : Plan) : Type 0 where
   pub one_each : length plan.places ≡ flat.vars
-  pub places : AllByRecursion (λ at. is_place flat.vars at ≡ true) plan.places
+  pub places : all_true (map (is_place flat.vars) plan.places) ≡ true
   pub writes : (n : ℕ) → AllByRecursion (Clear plan.places) (flat_steps (suc n) flat)
   pub arguments : (u v : ℕ) → u < flat.args → v < flat.args → LiveAtStart flat u → LiveAtStart flat v → (u ≡ v → ⊥) → Share plan.places u v → ⊥

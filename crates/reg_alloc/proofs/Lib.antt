@@ -3,5 +3,6 @@ mod Decided
 mod Exact
 mod Numbers
 mod OverPlaces
+mod Own
 mod Sets
 pub mod Next

@@ -3,5 +3,6 @@ pub mod Kept
 pub mod Liveness
 pub mod Marks
 pub mod PlanOk
+pub mod Registers
 pub mod Slots
 pub mod Visit

@@ -6,6 +6,7 @@ mod checking;
 mod laws;
 mod marks;
 mod plan;
+mod registers;
 mod visit;
 mod watch;
 
@@ -13,6 +14,7 @@ pub use allocation::allocate;
 pub use checking::{check_plan, live};
 pub use laws::places_keep;
 pub use plan::{At, Live, Plan};
+pub use registers::allocate_registers;
 
 #[cfg(test)]
 mod tests;

@@ -80,8 +80,8 @@ route_step n (f.While a x b) =
     record {
       ways = around;
       steps = λ after. record { writes = None; after = after }
-        ∷ ((routes a).steps (both (only (read x ∷ [])) (after ++ both (routes b).ways (both around after)))
-        ++ (routes b).steps (both around after));
+          ∷ ((routes a).steps (both (only (read x ∷ [])) (after ++ both (routes b).ways (both around after)))
+          ++ (routes b).steps (both around after));
     }
 
 abbrev pub route : ℕ → FStmt → Route

@@ -1,5 +1,5 @@
 -- What the public calls answer, by what they compute.
-use Rattle.std.proofs.Common.{◌≡◌, refl, ap, ◌∙◌, subst, sym, arith, ℕ, zero, suc, ◌+◌, ◌<◌, Bool, true, false, List, [], ◌∷◌, ◌++◌, map, reverse, Option, Some, None, Result, Ok, Err, IfOk, ◌↔◌, if◌then◌else◌}
+use Rattle.std.proofs.Common.{◌≡◌, refl, ap, ◌∙◌, subst, sym, arith, ℕ, zero, suc, ◌<◌, Bool, true, false, List, [], ◌∷◌, ◌++◌, map, reverse, Option, Some, None, Result, Ok, Err, IfOk, ◌↔◌, if◌then◌else◌}
 use Rattle.std.specs.Prelude.{slice_index_or}
 use Rattle.std.proofs.lemmas.List.{reverse-append, reverse-reverse}
 use Rattle.rup_base.specs.declared.no_memory.NoMemory.{NoMemory}
@@ -14,7 +14,7 @@ use Rattle.reg_alloc.specs.Marks.{Marks, below, listed}
 use Rattle.reg_alloc.specs.Visit.{seen, code_visit}
 use Rattle.reg_alloc.specs.PlanOk.{PlanOk}
 use Rattle.reg_alloc.specs.Liveness.{read_first, IsLiveness}
-use Rattle.reg_alloc.specs.Check.{plan_fits, lists_of, live_lists, at_start, at_end}
+use Rattle.reg_alloc.specs.Check.{plan_fits, lists_of, live_lists, at_end}
 use Rattle.reg_alloc.proofs.Exact.{from, replay, start_is, notes_are}
 use Rattle.reg_alloc.proofs.Decided.{from_at, fits_say, fits_since}
 
@@ -63,7 +63,7 @@ module _ (flat : Flat) where
   exact n =
       lists_are
       ∙ ap (λ (l : List ℕ). l ∷ map after_of (flat_points flat))
-          (listed_is (flat_need flat) ∙ below_same flat.vars (flat_need flat) (λ v. some_takes v (flat_ways (suc n) flat) false) (λ v less. sym (start_alike n flat v)))
+      (listed_is (flat_need flat) ∙ below_same flat.vars (flat_need flat) (λ v. some_takes v (flat_ways (suc n) flat) false) (λ v less. sym (start_alike n flat v)))
       ∙ ap (λ (l : List (List ℕ)). read_first flat.vars (flat_ways (suc n) flat) ∷ l) (alike_lists (flat_steps (suc n) flat) (flat_points flat) (steps_alike n flat))
 
 pub is_liveness : (flat : Flat) (r : Result (List (List ℕ)) NoMemory) → IfOk r (λ lists. lists ≡ live_lists flat) → IfOk r (λ lists. IsLiveness flat lists)

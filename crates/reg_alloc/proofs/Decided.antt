@@ -1,5 +1,5 @@
 -- What the walk over sets decides of a plan is what the paths say.
-use Rattle.std.proofs.Common.{◌≡◌, refl, ap, ◌∙◌, subst, sym, arith, ℕ, zero, suc, ◌+◌, ◌<◌, ◌≤◌, Bool, true, false, not, ◌||◌, ◌&&◌, nat_eq, nat_lt, List, [], ◌∷◌, map, length, Option, Some, None, slice_get, ◌⊎◌, inl, inr, ◌↔◌}
+use Rattle.std.proofs.Common.{◌≡◌, refl, ap, ◌∙◌, subst, sym, arith, ℕ, zero, suc, ◌+◌, ◌<◌, Bool, true, false, not, ◌||◌, ◌&&◌, nat_eq, nat_lt, List, [], ◌∷◌, map, length, Option, Some, None, slice_get, ◌⊎◌, inl, inr}
 use Rattle.std.specs.Prelude.{slice_index_or, option_map, unwrap_or}
 use Rattle.std.specs.List.{AllByRecursion}
 use Rattle.std.proofs.lemmas.Bool.{cases_eq, ltb-true}
@@ -7,18 +7,17 @@ use Rattle.std.proofs.lemmas.List.{length-map}
 use Rattle.std.proofs.lemmas.Option.{slice_get-map, get_or_from_slice_get, unwrap_or-slice_get}
 use Rattle.rup_base.specs.Gather.{all_true}
 use Rattle.flat_lang.specs.declared.flat.Flat.{Flat}
-use Rattle.flat_lang.specs.Paths.{some_takes, Step, flat_steps, flat_ways, LiveAtStart}
+use Rattle.flat_lang.specs.Paths.{Step, flat_steps, LiveAtStart}
 use Rattle.flat_lang.specs.Backwards.{Lives, Point, flat_points, flat_need}
 use Rattle.flat_lang.proofs.laws.Paths.{Alike, steps_alike, start_alike}
 use Rattle.reg_alloc.specs.declared.plan.At.{At}
 use Rattle.reg_alloc.specs.declared.plan.Plan.{Plan}
-use Rattle.reg_alloc.specs.declared.watch.Watch.{Watch}
 use Rattle.reg_alloc.specs.declared.watch.Watch.TheVariants.{Places}
 use Rattle.reg_alloc.specs.Marks.{Marks, alone, alone_from}
 use Rattle.reg_alloc.specs.Visit.{seen, code_visit}
 use Rattle.reg_alloc.specs.PlanOk.{is_place, Share, Clear, PlanOk}
 use Rattle.reg_alloc.specs.Kept.{number}
-use Rattle.reg_alloc.specs.Check.{all_below, arguments_fit, front_from, fits_to_start, code_fits, plan_fits, at_start, at_end}
+use Rattle.reg_alloc.specs.Check.{all_below, arguments_fit, fits_to_start, code_fits, plan_fits, at_end}
 use Rattle.reg_alloc.proofs.Numbers.{and_left, and_right, and_both, number_positive, same_number, each_valid, within}
 use Rattle.reg_alloc.proofs.Exact.{from, replay, front_is, start_is, notes_are}
 
@@ -48,8 +47,8 @@ since : (q x k : ℕ) (ps : List ℕ) (m : Lives) → ((i p : ℕ) → slice_get
 since q x k [] m h = refl
 since q x k (n ∷ ps) m h =
     and_both (not (m 0 && nat_eq n q) || nat_eq k x) (alone_from q x (k + 1) ps (from (length ps) (λ v. m (suc v))))
-      (head_since (m 0) n q k x (λ live same. let e = h 0 n refl live same in omega arith))
-      (since q x (k + 1) ps (λ v. m (suc v)) (λ i p is live same. let e = h (suc i) p is live same in omega arith))
+    (head_since (m 0) n q k x (λ live same. let e = h 0 n refl live same in omega arith))
+    (since q x (k + 1) ps (λ v. m (suc v)) (λ i p is live same. let e = h (suc i) p is live same in omega arith))
 
 pub from_at : (n : ℕ) (m : Lives) (u : ℕ) → u < n → slice_index_or (from n m) u false ≡ m u
 from_at zero m u h = absurd (omega arith)
@@ -160,9 +159,10 @@ module _ (flat : Flat) (plan : Plan) (one_each : length plan.places ≡ flat.var
   fits_clear [] [] alike h = tt
   fits_clear [] (q ∷ qs) alike h = tt
   fits_clear (s ∷ ss) [] alike h = absurd alike
-  fits_clear (s ∷ ss) (q ∷ qs) alike h =
-      ( λ x v writes live other share. clear_says x q.after (one_says q.writes q.after (all_fit qs) h x (sym alike.0 ∙ writes)) v (sym (alike.1.0 v) ∙ live) other share
-      , fits_clear ss qs alike.1.1 (one_rest q.writes q.after (all_fit qs) h))
+  fits_clear (s ∷ ss) (q ∷ qs) alike h = (
+    λ x v writes live other share. clear_says x q.after (one_says q.writes q.after (all_fit qs) h x (sym alike.0 ∙ writes)) v (sym (alike.1.0 v) ∙ live) other share,
+    fits_clear ss qs alike.1.1 (one_rest q.writes q.after (all_fit qs) h),
+  )
 
   clear_fits : (ss : List Step) (qs : List Point) → Alike ss qs → AllByRecursion (Clear plan.places) ss → all_fit qs ≡ true
   clear_fits [] [] alike h = refl
@@ -170,7 +170,7 @@ module _ (flat : Flat) (plan : Plan) (one_each : length plan.places ≡ flat.var
   clear_fits (s ∷ ss) [] alike h = absurd alike
   clear_fits (s ∷ ss) (q ∷ qs) alike h =
       one_since q.writes q.after (all_fit qs) (clear_fits ss qs alike.1.1 h.1)
-        (λ x is. clear_since x q.after (λ v live other share. h.0 x v (alike.0 ∙ is) (alike.1.0 v ∙ live) other share))
+      (λ x is. clear_since x q.after (λ v live other share. h.0 x v (alike.0 ∙ is) (alike.1.0 v ∙ live) other share))
 
   -- of the arguments
   abbrev fronted : Lives
@@ -203,8 +203,8 @@ module _ (flat : Flat) (plan : Plan) (one_each : length plan.places ≡ flat.var
   arguments_since : ArgumentsApart → all_below flat.args test ≡ true
   arguments_since h = below_since flat.args test (λ u less.
       or_since (slice_index_or (from flat.vars fronted) u false) (alone nums u (from flat.vars fronted)) (λ holds.
-        clear_since u fronted (λ v live other share.
-          h u v less (fronted_less v live) (fronted_live u (at_from flat.vars fronted u holds)) (fronted_live v live) (λ e. other (sym e)) (share.0, (share.1.1, share.1.0)))))
+      clear_since u fronted (λ v live other share.
+      h u v less (fronted_less v live) (fronted_live u (at_from flat.vars fronted u holds)) (fronted_live v live) (λ e. other (sym e)) (share.0, (share.1.1, share.1.0)))))
 
   code_fits_is : code_fits flat nums ≡ (all_fit (flat_points flat) && all_below flat.args test)
   code_fits_is =
@@ -225,7 +225,7 @@ module _ (flat : Flat) (plan : Plan) (one_each : length plan.places ≡ flat.var
   pub code_since : PlanOk flat plan → code_fits flat nums ≡ true
   code_since ok =
       code_fits_is ∙ and_both (all_fit (flat_points flat)) (all_below flat.args test)
-        (clear_fits (flat_steps 1 flat) (flat_points flat) (steps_alike 0 flat) (ok.writes 0)) (arguments_since ok.arguments)
+      (clear_fits (flat_steps 1 flat) (flat_points flat) (steps_alike 0 flat) (ok.writes 0)) (arguments_since ok.arguments)
 
 same_numbers : (a b : ℕ) → nat_eq a b ≡ true → a ≡ b
 same_numbers a b h = grind (arith, h)
@@ -239,12 +239,12 @@ fits_say flat plan h =
     let second = all_true (map (is_place flat.vars) plan.places) in
     let front = and_left (first && second) (code_fits flat (map number plan.places)) h in
     code_says flat plan (same_numbers (length plan.places) flat.vars (and_left first second front)) (and_right first second front)
-      (and_right (first && second) (code_fits flat (map number plan.places)) h)
+    (and_right (first && second) (code_fits flat (map number plan.places)) h)
 
 pub fits_since : (flat : Flat) (plan : Plan) → PlanOk flat plan → plan_fits flat plan ≡ true
 fits_since flat plan ok =
     let first = nat_eq (length plan.places) flat.vars in
     let second = all_true (map (is_place flat.vars) plan.places) in
     and_both (first && second) (code_fits flat (map number plan.places))
-      (and_both first second (equal_numbers (length plan.places) flat.vars ok.one_each) ok.places)
-      (code_since flat plan ok.one_each ok.places ok)
+    (and_both first second (equal_numbers (length plan.places) flat.vars ok.one_each) ok.places)
+    (code_since flat plan ok.one_each ok.places ok)

@@ -1,9 +1,9 @@
 -- The walk over sets finds for each variable what its needs say.
-use Rattle.std.proofs.Common.{◌≡◌, refl, ap, ◌∙◌, subst, sym, arith, ℕ, zero, suc, ◌+◌, ◌<◌, Bool, true, false, not, ◌||◌, ◌&&◌, nat_eq, nat_lt, List, [], ◌∷◌, ◌++◌, map, length, reverse, replicate, Option, Some, None, slice_set}
+use Rattle.std.proofs.Common.{◌≡◌, refl, ap, ◌∙◌, subst, sym, arith, ℕ, zero, suc, ◌+◌, Bool, true, false, not, ◌||◌, ◌&&◌, nat_eq, nat_lt, List, [], ◌∷◌, ◌++◌, map, length, replicate, Option, Some, None}
 use Rattle.flat_lang.specs.declared.flat.FStmt.{FStmt, FStmt-F, fold-roll-FStmt, map-FStmt, roll-FStmt, ind-FStmt}
 use Rattle.flat_lang.specs.declared.flat.FStmt.TheOpen as f
 use Rattle.flat_lang.specs.declared.flat.Flat.{Flat}
-use Rattle.flat_lang.specs.Paths.{read, takes, some_takes}
+use Rattle.flat_lang.specs.Paths.{read, takes}
 use Rattle.flat_lang.specs.Backwards.{Lives, Point, Walk, reads, sets, walks, turned, tested, one, walk_step, walk, code_walk, returned, flat_points, flat_need}
 use Rattle.reg_alloc.specs.declared.watch.Watch.{Watch}
 use Rattle.reg_alloc.specs.Marks.{Marks, blank, either}
@@ -51,14 +51,14 @@ put_is zero x m = refl
 put_is (suc n) zero m = two _ _ _ _ (reads_first (m 0)) (from_same n (λ v. m (suc v)) (λ v. reads 0 (suc v) (m (suc v))) (λ v. reads_past v (m (suc v))))
 put_is (suc n) (suc x) m =
     two (m 0) (reads (suc x) 0 (m 0)) (put (from n (λ v. m (suc v))) x) (from n (λ v. reads (suc x) (suc v) (m (suc v)))) (reads_before x (m 0))
-      (put_is n x (λ v. m (suc v)) ∙ from_same n (λ v. reads x v (m (suc v))) (λ v. reads (suc x) (suc v) (m (suc v))) (λ v. reads_next x v (m (suc v))))
+    (put_is n x (λ v. m (suc v)) ∙ from_same n (λ v. reads x v (m (suc v))) (λ v. reads (suc x) (suc v) (m (suc v))) (λ v. reads_next x v (m (suc v))))
 
 pub cut_is : (n x : ℕ) (m : Lives) → cut (from n m) x ≡ from n (λ v. sets x v (m v))
 cut_is zero x m = refl
 cut_is (suc n) zero m = two _ _ _ _ (sets_first (m 0)) (from_same n (λ v. m (suc v)) (λ v. sets 0 (suc v) (m (suc v))) (λ v. sets_past v (m (suc v))))
 cut_is (suc n) (suc x) m =
     two (m 0) (sets (suc x) 0 (m 0)) (cut (from n (λ v. m (suc v))) x) (from n (λ v. sets (suc x) (suc v) (m (suc v)))) (sets_before x (m 0))
-      (cut_is n x (λ v. m (suc v)) ∙ from_same n (λ v. sets x v (m (suc v))) (λ v. sets (suc x) (suc v) (m (suc v))) (λ v. sets_next x v (m (suc v))))
+    (cut_is n x (λ v. m (suc v)) ∙ from_same n (λ v. sets x v (m (suc v))) (λ v. sets (suc x) (suc v) (m (suc v))) (λ v. sets_next x v (m (suc v))))
 
 pub either_is : (n : ℕ) (m r : Lives) → either (from n m) (from n r) ≡ from n (λ v. m v || r v)
 either_is zero m r = refl
@@ -96,10 +96,10 @@ module _ (n : ℕ) where
   then_exact c cs w ws first rest = record {
     back = λ m. ap c.back (rest.back m) ∙ first.back (λ v. (walks ws).need v (m v));
     note = λ m watch.
-      ap (λ (z : Marks). c.note z ((visits cs).note (from n m) watch)) (rest.back m)
-      ∙ ap (c.note (from n (λ v. (walks ws).need v (m v)))) (rest.note m watch)
-      ∙ first.note (λ v. (walks ws).need v (m v)) (replay ((walks ws).points m) watch)
-      ∙ sym (replay_append (w.points (λ v. (walks ws).need v (m v))) ((walks ws).points m) watch);
+        ap (λ (z : Marks). c.note z ((visits cs).note (from n m) watch)) (rest.back m)
+        ∙ ap (c.note (from n (λ v. (walks ws).need v (m v)))) (rest.note m watch)
+        ∙ first.note (λ v. (walks ws).need v (m v)) (replay ((walks ws).points m) watch)
+        ∙ sym (replay_append (w.points (λ v. (walks ws).need v (m v))) ((walks ws).points m) watch);
   }
 
   single_exact : (writes : Option ℕ) (back : Marks → Marks) (need : ℕ → Bool → Bool) → ((m : Lives) → back (from n m) ≡ from n (λ v. need v (m v))) → Exact (single writes back) (one writes need)
@@ -121,12 +121,12 @@ module _ (n : ℕ) where
     if_exact : Exact choice choice_walk
     if_exact = record {
       back = λ m.
-        ap (λ (z : Marks). put (either z (b.back (from n m))) x) (first.back m)
-        ∙ ap (λ (z : Marks). put (either (from n (λ v. va.need v (m v))) z) x) (second.back m)
-        ∙ ap (λ (z : Marks). put z x) (either_is n (λ v. va.need v (m v)) (λ v. vb.need v (m v)))
-        ∙ put_is n x (λ v. va.need v (m v) || vb.need v (m v));
+          ap (λ (z : Marks). put (either z (b.back (from n m))) x) (first.back m)
+          ∙ ap (λ (z : Marks). put (either (from n (λ v. va.need v (m v))) z) x) (second.back m)
+          ∙ ap (λ (z : Marks). put z x) (either_is n (λ v. va.need v (m v)) (λ v. vb.need v (m v)))
+          ∙ put_is n x (λ v. va.need v (m v) || vb.need v (m v));
       note = λ m watch.
-        ap (seen None (from n m)) (ap (a.note (from n m)) (second.note m watch) ∙ first.note m (replay (vb.points m) watch) ∙ sym (replay_append (va.points m) (vb.points m) watch));
+          ap (seen None (from n m)) (ap (a.note (from n m)) (second.note m watch) ∙ first.note m (replay (vb.points m) watch) ∙ sym (replay_append (va.points m) (vb.points m) watch));
     }
 
     abbrev loop : Visit
@@ -160,7 +160,7 @@ module _ (n : ℕ) where
     while_exact = record {
       back = head_is;
       note = λ m watch.
-        ap (seen None (from n m))
+          ap (seen None (from n m))
           (ap (λ (z : Marks). a.note z (b.note (head a x b (from n m)) watch)) (test_is m)
           ∙ ap (λ (z : Marks). a.note (from n (λ v. tested va x vb v (m v))) (b.note z watch)) (head_is m)
           ∙ ap (a.note (from n (λ v. tested va x vb v (m v)))) (second.note (λ v. turned va x vb v (m v)) watch)
@@ -195,7 +195,7 @@ module _ (n : ℕ) where
   step_exact (f.Copy x y) = single_exact (Some x) (λ set. put (cut set x) y) (λ v k. reads y v (sets x v k)) (moved x y)
   step_exact (f.Bin op x y z) =
       single_exact (Some x) (λ set. put (put (cut set x) z) y) (λ v k. reads y v (reads z v (sets x v k)))
-        (λ m. ap (λ (s : Marks). put s y) (moved x z m) ∙ put_is n y (λ v. reads z v (sets x v (m v))))
+      (λ m. ap (λ (s : Marks). put s y) (moved x z m) ∙ put_is n y (λ v. reads z v (sets x v (m v))))
   step_exact (f.Load size x y) = single_exact (Some x) (λ set. put (cut set x) y) (λ v k. reads y v (sets x v k)) (moved x y)
   step_exact (f.Table size x k y) = single_exact (Some x) (λ set. put (cut set x) y) (λ v k. reads y v (sets x v k)) (moved x y)
   step_exact (f.Store size x y) =
@@ -233,9 +233,9 @@ front_is args k zero m = refl
 front_is args k (suc n) m =
     let here : k ≡ k + 0 = omega arith in
     two (nat_lt k args && m 0) (nat_lt (k + 0) args && m 0) (front_from args (k + 1) (from n (λ v. m (suc v)))) (from n (λ v. nat_lt (k + suc v) args && m (suc v)))
-      (ap (λ j. nat_lt j args && m 0) here)
-      (front_is args (k + 1) n (λ v. m (suc v))
-        ∙ from_same n (λ v. nat_lt (k + 1 + v) args && m (suc v)) (λ v. nat_lt (k + suc v) args && m (suc v)) (λ v. let e : k + 1 + v ≡ k + suc v = omega arith in ap (λ j. nat_lt j args && m (suc v)) e))
+    (ap (λ j. nat_lt j args && m 0) here)
+    (front_is args (k + 1) n (λ v. m (suc v))
+    ∙ from_same n (λ v. nat_lt (k + 1 + v) args && m (suc v)) (λ v. nat_lt (k + suc v) args && m (suc v)) (λ v. let e : k + 1 + v ≡ k + suc v = omega arith in ap (λ j. nat_lt j args && m (suc v)) e))
 
 -- of a whole code
 pub start_is : (flat : Flat) → at_start flat ≡ from flat.vars (flat_need flat)

@@ -1,5 +1,5 @@
 -- The code over places does what the code over variables does.
-use Rattle.std.proofs.Common.{◌≡◌, refl, ap, ◌∙◌, subst, sym, ℕ, zero, suc, Bool, true, false, ◌||◌, nat_eq, List, [], ◌∷◌, map, Option, Some, None, Result, Ok, slice_get, arith}
+use Rattle.std.proofs.Common.{◌≡◌, refl, ◌∙◌, ℕ, zero, suc, Bool, true, false, ◌||◌, nat_eq, List, [], ◌∷◌, map, Option, Some, None, slice_get, arith}
 use Rattle.std.specs.List.{AllByRecursion}
 use Rattle.flat_lang.specs.declared.flat.Flat.{Flat}
 use Rattle.flat_lang.specs.Paths.{read, takes, some_takes, Step, flat_steps}
@@ -45,7 +45,7 @@ module _ (flat : Flat) (plan : Plan) (ok : PlanOk flat plan) where
 pub keep : PlacesKeep
 keep flat plan ok w s t places starts is =
     let went = body_keeps (place_number plan) w flat.tables flat.body (returned flat.rets) s t places (flat_apart flat plan ok)
-      (λ x n live found. starts x n (0, start_alike 0 flat x ∙ live) found) is in
+    (λ x n live found. starts x n (0, start_alike 0 flat x ∙ live) found) is in
     record {
       places_after = went.vars;
       runs = went.runs;

@@ -1,5 +1,5 @@
 -- Places of one's own serve every code.
-use Rattle.std.proofs.Common.{◌≡◌, refl, ap, ◌∙◌, subst, sym, arith, ℕ, zero, suc, ◌+◌, ◌<◌, ◌≤◌, Bool, true, false, not, ◌||◌, ◌&&◌, nat_eq, nat_lt, nat_le, List, [], ◌∷◌, ◌++◌, map, length, length-append, Option, Some, None, Result, Ok, Err, IfOk, slice_get, ◌⊎◌, inl, inr, if◌then◌else◌}
+use Rattle.std.proofs.Common.{◌≡◌, refl, ap, ◌∙◌, subst, sym, arith, ℕ, zero, suc, ◌+◌, ◌<◌, ◌≤◌, Bool, true, false, nat_lt, List, [], ◌∷◌, ◌++◌, map, length, length-append, Option, Some, None, Result, Ok, Err, IfOk, slice_get, ◌⊎◌, inl, inr, if◌then◌else◌}
 use Rattle.std.specs.List.{AllByRecursion}
 use Rattle.rup_base.specs.Gather.{all_true}
 use Rattle.rup_base.specs.declared.no_memory.NoMemory.{NoMemory}
@@ -24,11 +24,18 @@ spot v = by_two (nat_lt v 2) refl
   where
     by_sixteen : nat_lt v 2 ≡ false → (b : Bool) → nat_lt v 16 ≡ b → Spot v
     by_sixteen low true is =
-        inr (inl (grind (arith, low), (grind (arith, is),
-          ap (λ c. if c then Reg (8 + v) else (if nat_lt v 16 then Reg (16 + v) else Slot v)) low ∙ ap (λ c. if c then Reg (16 + v) else Slot v) is)))
+        inr (inl (
+          grind (arith, low),
+          (
+            grind (arith, is),
+            ap (λ c. if c then Reg (8 + v) else (if nat_lt v 16 then Reg (16 + v) else Slot v)) low ∙ ap (λ c. if c then Reg (16 + v) else Slot v) is,
+          ),
+        ))
     by_sixteen low false is =
-        inr (inr (grind (arith, is),
-          ap (λ c. if c then Reg (8 + v) else (if nat_lt v 16 then Reg (16 + v) else Slot v)) low ∙ ap (λ c. if c then Reg (16 + v) else Slot v) is))
+        inr (inr (
+          grind (arith, is),
+          ap (λ c. if c then Reg (8 + v) else (if nat_lt v 16 then Reg (16 + v) else Slot v)) low ∙ ap (λ c. if c then Reg (16 + v) else Slot v) is,
+        ))
 
     by_two : (b : Bool) → nat_lt v 2 ≡ b → Spot v
     by_two true is = inl (grind (arith, is), ap (λ c. if c then Reg (8 + v) else (if nat_lt v 16 then Reg (16 + v) else Slot v)) is)
@@ -63,7 +70,7 @@ all_last : (k : ℕ) (xs : List At) (y : At) → all_true (map (is_place k) xs) 
 all_last k [] y h g = and_both (is_place k y) true g refl
 all_last k (x ∷ xs) y h g =
     and_both (is_place k x) (all_true (map (is_place k) (xs ++ y ∷ []))) (and_left (is_place k x) (all_true (map (is_place k) xs)) h)
-      (all_last k xs y (and_right (is_place k x) (all_true (map (is_place k) xs)) h) g)
+    (all_last k xs y (and_right (is_place k x) (all_true (map (is_place k) xs)) h) g)
 
 all_own_valid : (k n : ℕ) → n ≤ k → all_true (map (is_place k) (own_places n)) ≡ true
 all_own_valid k zero h = refl

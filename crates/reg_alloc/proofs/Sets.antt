@@ -1,5 +1,5 @@
 -- One step of a union, and its end.
-use Rattle.std.proofs.Common.{◌≡◌, refl, ap, ◌∙◌, subst, sym, arith, ℕ, zero, suc, ◌+◌, ◌<◌, ◌≤◌, Bool, true, false, ◌||◌, ◌&&◌, not, nat_eq, List, [], ◌∷◌, drop, length, ◌++◌, if◌then◌else◌}
+use Rattle.std.proofs.Common.{◌≡◌, refl, ap, subst, arith, ℕ, zero, suc, ◌+◌, ◌<◌, ◌≤◌, Bool, true, false, ◌||◌, ◌&&◌, not, nat_eq, List, [], ◌∷◌, drop, length, ◌++◌, if◌then◌else◌}
 use Rattle.std.specs.Prelude.{slice_index_or}
 use Rattle.reg_alloc.specs.Check.{all_below}
 use Rattle.reg_alloc.specs.Marks.{Marks, either, below, alone_from}
@@ -42,23 +42,23 @@ below_next n test = let e : n + 1 ≡ suc n = omega arith in ap (λ k. below k t
 
 alone_at : (q x k i : ℕ) (ps : List ℕ) (l : Marks) → i < length ps
     → alone_from q x k (drop i ps) (drop i l)
-      ≡ ((not (slice_index_or l i false && nat_eq (slice_index_or ps i 0) q) || nat_eq k x) && alone_from q x (k + 1) (drop (suc i) ps) (drop (suc i) l))
+    ≡ ((not (slice_index_or l i false && nat_eq (slice_index_or ps i 0) q) || nat_eq k x) && alone_from q x (k + 1) (drop (suc i) ps) (drop (suc i) l))
 alone_at q x k i [] l h = absurd (omega arith)
 alone_at q x k zero (p ∷ []) [] h = refl
 alone_at q x k zero (p ∷ r ∷ ps) [] h = refl
 alone_at q x k zero (p ∷ ps) (b ∷ l) h = refl
 alone_at q x k (suc i) (p ∷ ps) [] h =
     subst (λ (z : Marks). alone_from q x k (drop i ps) z ≡ ((not (false && nat_eq (slice_index_or ps i 0) q) || nat_eq k x) && alone_from q x (k + 1) (drop (suc i) ps) []))
-      (drop_nil i) (alone_at q x k i ps [] (omega arith))
+    (drop_nil i) (alone_at q x k i ps [] (omega arith))
 alone_at q x k (suc i) (p ∷ ps) (b ∷ l) h = alone_at q x k i ps l (omega arith)
 
 pub alone_step : (q x i : ℕ) (ps : List ℕ) (l : Marks) → i < length ps
     → alone_from q x i (drop i ps) (drop i l)
-      ≡ ((not (slice_index_or l i false && nat_eq (slice_index_or ps i 0) q) || nat_eq i x) && alone_from q x (i + 1) (drop (i + 1) ps) (drop (i + 1) l))
+    ≡ ((not (slice_index_or l i false && nat_eq (slice_index_or ps i 0) q) || nat_eq i x) && alone_from q x (i + 1) (drop (i + 1) ps) (drop (i + 1) l))
 alone_step q x i ps l h =
     let e : suc i ≡ i + 1 = omega arith in
     subst (λ n. alone_from q x i (drop i ps) (drop i l)
-      ≡ ((not (slice_index_or l i false && nat_eq (slice_index_or ps i 0) q) || nat_eq i x) && alone_from q x (i + 1) (drop n ps) (drop n l))) e (alone_at q x i i ps l h)
+    ≡ ((not (slice_index_or l i false && nat_eq (slice_index_or ps i 0) q) || nat_eq i x) && alone_from q x (i + 1) (drop n ps) (drop n l))) e (alone_at q x i i ps l h)
 
 done_at : (q x k i : ℕ) (ps : List ℕ) (l : Marks) → length ps ≤ i → alone_from q x k (drop i ps) l ≡ true
 done_at q x k zero [] l h = refl

@@ -1,5 +1,5 @@
 -- The code over places does what the code over variables does.
-use Rattle.std.specs.Prelude.{◌≡◌, ℕ, ◌+◌, ◌<◌, List, Option, Some, None, Result, Ok, slice_get}
+use Rattle.std.specs.Prelude.{◌≡◌, ℕ, ◌+◌, List, Option, Some, None, Ok, slice_get}
 use Rattle.std.specs.FinMap.{get}
 use Rattle.bed_syntax.specs.declared.weights.Weights.{Weights}
 use Rattle.bed_meaning.specs.Access.{Bytes}

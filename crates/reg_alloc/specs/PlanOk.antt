@@ -1,5 +1,5 @@
 -- Which plans serve a code: of no two variables that are needed at once does one overwrite the other.
-use Rattle.std.specs.Prelude.{◌≡◌, ℕ, suc, ◌+◌, ◌<◌, Bool, true, false, ◌&&◌, ◌||◌, nat_eq, nat_lt, nat_le, List, map, length, Option, Some, None, slice_get}
+use Rattle.std.specs.Prelude.{◌≡◌, ℕ, suc, ◌<◌, Bool, true, false, ◌&&◌, ◌||◌, nat_eq, nat_lt, nat_le, List, map, length, Some, slice_get}
 use Rattle.std.specs.List.{AllByRecursion}
 use Rattle.rup_base.specs.Gather.{all_true}
 use Rattle.flat_lang.specs.declared.flat.Flat.{Flat}

@@ -61,12 +61,21 @@ pub fn back_all(alloc: Global, body: &[FStmt], set: &mut Vec<bool>) -> Result<()
 
 /// Makes of what is live after a statement what is live before it, and keeps what is to be kept on the way.
 #[cycle(walk)]
-pub fn walk(alloc: Global, s: &FStmt, set: &mut Vec<bool>, watch: &mut Watch) -> Result<(), NoMemory>
+pub fn walk(
+    alloc: Global,
+    s: &FStmt,
+    set: &mut Vec<bool>,
+    watch: &mut Watch,
+) -> Result<(), NoMemory>
     ensures live { OnOk result (set.new.items ≡ (visit s.now).back set.old.items) }
     ensures kept { OnOk result (watch.new ≡ (visit s.now).note set.old.items watch.old) }
 {
     match s {
-        FStmt::Lit(x, _) | FStmt::Copy(x, _) | FStmt::Bin(_, x, _, _) | FStmt::Load(_, x, _) | FStmt::Table(_, x, _, _) => {
+        FStmt::Lit(x, _)
+        | FStmt::Copy(x, _)
+        | FStmt::Bin(_, x, _, _)
+        | FStmt::Load(_, x, _)
+        | FStmt::Table(_, x, _, _) => {
             see(alloc, Some(*x), set.as_slice(), watch)?;
             back(alloc, s, set)?;
         }
@@ -99,7 +108,12 @@ pub fn walk(alloc: Global, s: &FStmt, set: &mut Vec<bool>, watch: &mut Watch) ->
 
 /// The same of statements one after another.
 #[cycle(walk)]
-pub fn walk_all(alloc: Global, body: &[FStmt], set: &mut Vec<bool>, watch: &mut Watch) -> Result<(), NoMemory>
+pub fn walk_all(
+    alloc: Global,
+    body: &[FStmt],
+    set: &mut Vec<bool>,
+    watch: &mut Watch,
+) -> Result<(), NoMemory>
     ensures live { OnOk result (set.new.items ≡ (code_visit body.now).back set.old.items) }
     ensures kept { OnOk result (watch.new ≡ (code_visit body.now).note set.old.items watch.old) }
 {

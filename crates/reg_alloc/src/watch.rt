@@ -63,7 +63,12 @@ fn shares_none(places: &[u64], place: u64, x: usize, set: &[bool]) -> bool
 }
 
 /// A statement is kept, by what it writes and what is live after it.
-pub fn see(alloc: Global, writes: Option<u32>, set: &[bool], watch: &mut Watch) -> Result<(), NoMemory>
+pub fn see(
+    alloc: Global,
+    writes: Option<u32>,
+    set: &[bool],
+    watch: &mut Watch,
+) -> Result<(), NoMemory>
     ensures { OnOk result (watch.new ≡ seen writes set.now watch.old) }
 {
     match watch {

@@ -1,5 +1,5 @@
 -- What is found backwards is what the paths say, for every number of turns from one on.
-use Rattle.std.proofs.Common.{Bool, true, false, ◌&&◌, ◌||◌, ◌≡◌, refl, sym, ap, ◌∙◌, subst, ℕ, zero, suc, nat_eq, List, [], ◌∷◌, ◌++◌, map, Option, Some, None}
+use Rattle.std.proofs.Common.{Bool, false, ◌||◌, ◌≡◌, refl, sym, ap, ◌∙◌, subst, ℕ, suc, List, [], ◌∷◌, ◌++◌, map, Option, Some, None}
 use Rattle.flat_lang.specs.declared.flat.FStmt.{FStmt, FStmt-F, fold-roll-FStmt, map-FStmt, roll-FStmt, ind-FStmt}
 use Rattle.flat_lang.specs.declared.flat.FStmt.TheOpen as f
 use Rattle.flat_lang.specs.declared.flat.Flat.{Flat}
@@ -44,9 +44,9 @@ then_goes r rs w ws h g = record {
     need = λ v k. some_both v r.ways (routes rs).ways k g.same.full ∙ h.same.need v (some_takes v (routes rs).ways k) ∙ ap (λ t. w.need v t) (g.same.need v k);
   };
   steps = λ m l full is.
-    alike_append (r.steps (both (routes rs).ways m)) ((routes rs).steps m) (w.points (λ v. (walks ws).need v (l v))) ((walks ws).points l)
+      alike_append (r.steps (both (routes rs).ways m)) ((routes rs).steps m) (w.points (λ v. (walks ws).need v (l v))) ((walks ws).points l)
       (h.steps (both (routes rs).ways m) (λ v. (walks ws).need v (l v)) (full_both (routes rs).ways m g.same.full full)
-        (λ v. some_both v (routes rs).ways m false full ∙ ap (λ t. some_takes v (routes rs).ways t) (is v) ∙ g.same.need v (l v)))
+      (λ v. some_both v (routes rs).ways m false full ∙ ap (λ t. some_takes v (routes rs).ways t) (is v) ∙ g.same.need v (l v)))
       (g.steps m l full is);
 }
 
@@ -74,9 +74,9 @@ module _ (x : ℕ) (ra rb : Route) (wa wb : Walk) (ga : Goes ra wa) (gb : Goes r
     same = record {
       full = full_both (only (read x ∷ [])) (ra.ways ++ rb.ways) tt (full_append ra.ways rb.ways ga.same.full);
       need = λ v k.
-        some_both v (only (read x ∷ [])) (ra.ways ++ rb.ways) k (full_append ra.ways rb.ways ga.same.full)
-        ∙ some_read v x (some_takes v (ra.ways ++ rb.ways) k)
-        ∙ ap (λ t. reads x v t) (some_append v ra.ways rb.ways k ∙ ap (λ t. t || some_takes v rb.ways k) (ga.same.need v k) ∙ ap (λ t. wa.need v k || t) (gb.same.need v k));
+          some_both v (only (read x ∷ [])) (ra.ways ++ rb.ways) k (full_append ra.ways rb.ways ga.same.full)
+          ∙ some_read v x (some_takes v (ra.ways ++ rb.ways) k)
+          ∙ ap (λ t. reads x v t) (some_append v ra.ways rb.ways k ∙ ap (λ t. t || some_takes v rb.ways k) (ga.same.need v k) ∙ ap (λ t. wa.need v k || t) (gb.same.need v k));
     };
     steps = λ m l full is. (refl, (is, alike_append (ra.steps m) (rb.steps m) (wa.points l) (wb.points l) (ga.steps m l full is) (gb.steps m l full is)));
   }
@@ -126,20 +126,25 @@ module _ (x : ℕ) (ra rb : Route) (wa wb : Walk) (ga : Goes ra wa) (gb : Goes r
         some_both v (only (read x ∷ [])) (m ++ both rb.ways (both around m)) false (full_append m (both rb.ways (both around m)) full)
         ∙ some_read v x (some_takes v (m ++ both rb.ways (both around m)) false)
         ∙ ap (λ t. reads x v t) (some_append v m (both rb.ways (both around m)) false
-          ∙ ap (λ t. t || some_takes v (both rb.ways (both around m)) false) (is v)
-          ∙ ap (λ t. l v || t) (some_both v rb.ways (both around m) false (full_both around m full_around full)
-            ∙ gb.same.need v (some_takes v (both around m) false)
-            ∙ ap (λ t. wb.need v t) (behind m l full is v)))
+        ∙ ap (λ t. t || some_takes v (both rb.ways (both around m)) false) (is v)
+        ∙ ap (λ t. l v || t) (some_both v rb.ways (both around m) false (full_both around m full_around full)
+        ∙ gb.same.need v (some_takes v (both around m) false)
+        ∙ ap (λ t. wb.need v t) (behind m l full is v)))
 
     while_goes : Goes loop loop_walk
     while_goes = record {
       same = record { full = full_around; need = around_need };
-      steps = λ m l full is.
-        (refl, (is, alike_append (ra.steps (in_front m)) (rb.steps (both around m))
-          (wa.points (λ v. tested wa x wb v (l v))) (wb.points (λ v. turned wa x wb v (l v)))
-          (ga.steps (in_front m) (λ v. tested wa x wb v (l v))
-            (full_both (only (read x ∷ [])) (m ++ both rb.ways (both around m)) tt (full_append m (both rb.ways (both around m)) full)) (before m l full is))
-          (gb.steps (both around m) (λ v. turned wa x wb v (l v)) (full_both around m full_around full) (behind m l full is))));
+      steps = λ m l full is. (
+        refl,
+        (
+          is,
+          alike_append (ra.steps (in_front m)) (rb.steps (both around m))
+              (wa.points (λ v. tested wa x wb v (l v))) (wb.points (λ v. turned wa x wb v (l v)))
+              (ga.steps (in_front m) (λ v. tested wa x wb v (l v))
+              (full_both (only (read x ∷ [])) (m ++ both rb.ways (both around m)) tt (full_append m (both rb.ways (both around m)) full)) (before m l full is))
+              (gb.steps (both around m) (λ v. turned wa x wb v (l v)) (full_both around m full_around full) (behind m l full is)),
+        ),
+      );
     }
 
 module _ (n : ℕ) where

@@ -1,8 +1,7 @@
 -- Renamed code does what the code does, where no statement writes a variable under whose new name another is live after it.
-use Rattle.std.proofs.Common.{Bool, true, false, not, ◌&&◌, ◌||◌, ◌≡◌, refl, sym, ap, ◌∙◌, subst, ℕ, zero, suc, nat_eq, List, [], ◌∷◌, ◌++◌, map, Option, Some, None, Result, Ok, Err, slice_get, ◌⊎◌, inl, inr, arith}
+use Rattle.std.proofs.Common.{Bool, true, false, ◌||◌, ◌≡◌, refl, sym, ap, ◌∙◌, subst, ℕ, zero, suc, nat_eq, List, [], ◌∷◌, ◌++◌, map, Option, Some, None, Result, Ok, Err, slice_get, ◌⊎◌, inl, inr, arith}
 use Rattle.std.proofs.lemmas.Bool.{cases_eq}
-use Rattle.std.specs.Ordering.{nat_cmp}
-use Rattle.std.specs.FinMap.{FinMap, get, insert}
+use Rattle.std.specs.FinMap.{get, insert}
 use Rattle.rv_memory.proofs.laws.Numbers.{get-insert_same, get-insert_other}
 use Rattle.bed_syntax.specs.Operation.{apply}
 use Rattle.bed_syntax.specs.declared.weights.Weights.{Weights}
@@ -14,7 +13,7 @@ use Rattle.flat_lang.specs.declared.flat.FStmt.TheOpen as f
 use Rattle.flat_lang.specs.State.{State, Vars, spend, with_mem, with_var}
 use Rattle.flat_lang.specs.Meaning as flat
 use Rattle.flat_lang.specs.Meaning.{Rule, and_then, given, take_one, fuelled, choose, in_turn, turns, run_step, run, run_all}
-use Rattle.flat_lang.specs.Backwards.{Lives, Point, Walk, reads, sets, walks, turned, tested, one, walk_step, walk, code_walk}
+use Rattle.flat_lang.specs.Backwards.{Lives, Point, Walk, reads, sets, walks, turned, tested, walk_step, walk, code_walk}
 use Rattle.flat_lang.specs.Renamed.{renamed_step, renamed, code_renamed}
 
 abbrev pub done : State → Result State Halt
@@ -154,8 +153,8 @@ module _ (p : ℕ → ℕ) where
   row_keeps rule other rules others w ws first second l s t u ok a is =
       let mid : Lives = λ v. (walks ws).need v (l v) in
       then_keeps (rule s) (other (over s u)) mid l t (in_turn rules) (in_turn others)
-        (λ z here. first mid s z u (apart_front (w.points mid) ((walks ws).points l) ok) a here)
-        (λ z u1 a1 here. second l z t u1 (apart_back (w.points mid) ((walks ws).points l) ok) a1 here) is
+      (λ z here. first mid s z u (apart_front (w.points mid) ((walks ws).points l) ok) a here)
+      (λ z u1 a1 here. second l z t u1 (apart_back (w.points mid) ((walks ws).points l) ok) a1 here) is
 
   module _ (w : Weights) (tables : List (List ℕ)) where
     abbrev pub Both : FStmt-F Rule → FStmt-F Rule → Walk → Type 0
@@ -183,28 +182,28 @@ module _ (p : ℕ → ℕ) where
         let k2 : Lives = λ v. reads z v (k v) in
         let a2 = past y k2 s.vars u a in
         take_keeps s.fuel l s t u _ _ (λ j go. read_first y k2 l s.vars u t _ _ a (λ n here. read_first z k l s.vars u t _ _ a2
-          (λ m there. set_keeps w.operation x (apply op n m) l (left j s) t u ok.0 (past z k s.vars u a2) there) here) go) is
+        (λ m there. set_keeps w.operation x (apply op n m) l (left j s) t u ok.0 (past z k s.vars u a2) there) here) go) is
 
     load_keeps : (size : _) (x y : ℕ) → Both (f.Load size x y) (f.Load size (p x) (p y)) (walk_step (f.Load size x y))
     load_keeps size x y l s t u ok a is =
         let k : Lives = λ v. sets x v (l v) in
         take_keeps s.fuel l s t u _ _ (λ j go. read_first y k l s.vars u t _ _ a (λ n here. same_keeps (loaded size s.mem n) l t _ _
-          (λ m there. set_keeps w.load x m l (left j s) t u ok.0 (past y k s.vars u a) there) here) go) is
+        (λ m there. set_keeps w.load x m l (left j s) t u ok.0 (past y k s.vars u a) there) here) go) is
 
     table_keeps : (size : _) (x i y : ℕ) → Both (f.Table size x i y) (f.Table size (p x) i (p y)) (walk_step (f.Table size x i y))
     table_keeps size x i y l s t u ok a is =
         let k : Lives = λ v. sets x v (l v) in
         take_keeps s.fuel l s t u _ _ (λ j go. read_first y k l s.vars u t _ _ a (λ n here. same_keeps (slice_get tables i) l t _ _
-          (λ bytes there. same_keeps (entry size bytes n) l t _ _
-          (λ m last. set_keeps w.table x m l (left j s) t u ok.0 (past y k s.vars u a) last) there) here) go) is
+        (λ bytes there. same_keeps (entry size bytes n) l t _ _
+        (λ m last. set_keeps w.table x m l (left j s) t u ok.0 (past y k s.vars u a) last) there) here) go) is
 
     store_keeps : (size : _) (x y : ℕ) → Both (f.Store size x y) (f.Store size (p x) (p y)) (walk_step (f.Store size x y))
     store_keeps size x y l s t u ok a is =
         let k2 : Lives = λ v. reads y v (l v) in
         let a2 = past x k2 s.vars u a in
         take_keeps s.fuel l s t u _ _ (λ j go. read_first x k2 l s.vars u t _ _ a (λ n here. read_first y l l s.vars u t _ _ a2
-          (λ m there. same_keeps (store size s.mem n m) l t _ _
-          (λ mem last. ends_here l (with_mem mem (spend w.store (left j s))) t u (past y l s.vars u a2) last) there) here) go) is
+        (λ m there. same_keeps (store size s.mem n m) l t _ _
+        (λ mem last. ends_here l (with_mem mem (spend w.store (left j s))) t u (past y l s.vars u a2) last) there) here) go) is
 
     if_keeps : (x : ℕ) (a b c d : List Rule) (va vb : List Walk) → Keeps (in_turn a) (in_turn c) (walks va) → Keeps (in_turn b) (in_turn d) (walks vb)
         → Both (f.If x a b) (f.If (p x) c d) (walk_step (f.If x va vb))
@@ -212,11 +211,11 @@ module _ (p : ℕ → ℕ) where
         let k : Lives = λ v. (walks va).need v (l v) || (walks vb).need v (l v) in
         let rest = past x k s.vars u ag in
         take_keeps s.fuel l s t u _ _ (λ j go. read_first x k l s.vars u t _ _ ag (λ n here. choose_keeps n l (spend w.test (left j s)) t u _ _ _ _
-          (λ there. first l (spend w.test (left j s)) t u (apart_front ((walks va).points l) ((walks vb).points l) ok.1)
-            (fewer (λ v. (walks va).need v (l v)) k s.vars u rest (λ v live. or_left ((walks va).need v (l v)) ((walks vb).need v (l v)) live)) there)
-          (λ there. second l (spend w.test (left j s)) t u (apart_back ((walks va).points l) ((walks vb).points l) ok.1)
-            (fewer (λ v. (walks vb).need v (l v)) k s.vars u rest (λ v live. or_right ((walks va).need v (l v)) ((walks vb).need v (l v)) live)) there)
-          here) go) is
+        (λ there. first l (spend w.test (left j s)) t u (apart_front ((walks va).points l) ((walks vb).points l) ok.1)
+        (fewer (λ v. (walks va).need v (l v)) k s.vars u rest (λ v live. or_left ((walks va).need v (l v)) ((walks vb).need v (l v)) live)) there)
+        (λ there. second l (spend w.test (left j s)) t u (apart_back ((walks va).points l) ((walks vb).points l) ok.1)
+        (fewer (λ v. (walks vb).need v (l v)) k s.vars u rest (λ v live. or_right ((walks va).need v (l v)) ((walks vb).need v (l v)) live)) there)
+        here) go) is
 
     module _ (x : ℕ) (a b c d : Rule) (va vb : Walk) (first : Keeps a c va) (second : Keeps b d vb) (l : Lives) where
       abbrev head : Lives
@@ -230,16 +229,16 @@ module _ (p : ℕ → ℕ) where
       turns_keep zero s t u oka okb ag is = absurd (let bad : ◌≡◌ {A = Result State Halt} (Err OutOfFuel) (Ok t) = is in cc)
       turns_keep (suc n) s t u oka okb ag is =
           then_keeps (a s) (c (over s u)) at_test l t _ _
-            (λ z here. first at_test s z u oka (fewer (λ v. va.need v (at_test v)) head s.vars u ag (λ v. settles (va.need v) (vb.need v) (nat_eq v x) (l v))) here)
-            (λ z u1 a1 here.
-              let beyond = past x (λ v. l v || vb.need v (head v)) z.vars u1 a1 in
-              read_first x (λ v. l v || vb.need v (head v)) l z.vars u1 t _ _ a1 (λ m there. choose_keeps m l (spend w.turn z) t u1 _ _ _ _
-                (λ go. take_keeps z.fuel l (spend w.turn z) t u1 _ _ (λ j on. then_keeps (b (left j (spend w.turn z))) (d (over (left j (spend w.turn z)) u1)) head l t _ _
-                  (λ y this. second head (left j (spend w.turn z)) y u1 okb (fewer (λ v. vb.need v (head v)) (λ v. l v || vb.need v (head v)) z.vars u1 beyond
-                    (λ v live. or_right (l v) (vb.need v (head v)) live)) this)
-                  (λ y u2 a2 this. turns_keep n y t u2 oka okb a2 this) on) go)
-                (λ go. ends_here l (spend w.turn z) t u1 (fewer l (λ v. l v || vb.need v (head v)) z.vars u1 beyond (λ v live. or_left (l v) (vb.need v (head v)) live)) go)
-                there) here) is
+          (λ z here. first at_test s z u oka (fewer (λ v. va.need v (at_test v)) head s.vars u ag (λ v. settles (va.need v) (vb.need v) (nat_eq v x) (l v))) here)
+          (λ z u1 a1 here.
+          let beyond = past x (λ v. l v || vb.need v (head v)) z.vars u1 a1 in
+          read_first x (λ v. l v || vb.need v (head v)) l z.vars u1 t _ _ a1 (λ m there. choose_keeps m l (spend w.turn z) t u1 _ _ _ _
+          (λ go. take_keeps z.fuel l (spend w.turn z) t u1 _ _ (λ j on. then_keeps (b (left j (spend w.turn z))) (d (over (left j (spend w.turn z)) u1)) head l t _ _
+          (λ y this. second head (left j (spend w.turn z)) y u1 okb (fewer (λ v. vb.need v (head v)) (λ v. l v || vb.need v (head v)) z.vars u1 beyond
+          (λ v live. or_right (l v) (vb.need v (head v)) live)) this)
+          (λ y u2 a2 this. turns_keep n y t u2 oka okb a2 this) on) go)
+          (λ go. ends_here l (spend w.turn z) t u1 (fewer l (λ v. l v || vb.need v (head v)) z.vars u1 beyond (λ v live. or_left (l v) (vb.need v (head v)) live)) go)
+          there) here) is
 
     while_keeps : (x : ℕ) (a b c d : List Rule) (va vb : List Walk) → Keeps (in_turn a) (in_turn c) (walks va) → Keeps (in_turn b) (in_turn d) (walks vb)
         → Both (f.While a x b) (f.While c (p x) d) (walk_step (f.While va x vb))
@@ -247,7 +246,7 @@ module _ (p : ℕ → ℕ) where
         let at_test : Lives = λ v. tested (walks va) x (walks vb) v (l v) in
         let head : Lives = λ v. turned (walks va) x (walks vb) v (l v) in
         take_keeps s.fuel l s t u _ _ (λ j go. turns_keep x (in_turn a) (in_turn b) (in_turn c) (in_turn d) (walks va) (walks vb) first second l s.fuel (left j s) t u
-          (apart_front ((walks va).points at_test) ((walks vb).points head) ok.1) (apart_back ((walks va).points at_test) ((walks vb).points head) ok.1) ag go) is
+        (apart_front ((walks va).points at_test) ((walks vb).points head) ok.1) (apart_back ((walks va).points at_test) ((walks vb).points head) ok.1) ag go) is
 
     abbrev pub Fine : FStmt → Type 0
     Fine c = Keeps (run w tables c) (run w tables (renamed p c)) (walk c)
@@ -291,7 +290,7 @@ module _ (p : ℕ → ℕ) where
         subst (λ r. Keeps r (run w tables (renamed p (roll-FStmt (bare y)))) (walk (roll-FStmt (bare y)))) (sym here)
         (subst (λ r. Keeps (run_step w tables (map-FStmt FStmt Rule (run w tables) (bare y))) r (walk (roll-FStmt (bare y)))) (sym there)
         (subst (λ v. Keeps (run_step w tables (map-FStmt FStmt Rule (run w tables) (bare y)))
-            (run_step w tables (map-FStmt FStmt Rule (run w tables) (renamed_step p (map-FStmt FStmt FStmt (renamed p) (bare y))))) v) (sym lives) (step_keeps y)))
+        (run_step w tables (map-FStmt FStmt Rule (run w tables) (renamed_step p (map-FStmt FStmt FStmt (renamed p) (bare y))))) v) (sym lives) (step_keeps y)))
 
     stmt_keeps : (c : FStmt) → Fine c
     stmt_keeps = ind-FStmt Fine (λ x y is. subst (λ z. Fine (roll-FStmt z)) is (node_keeps y))

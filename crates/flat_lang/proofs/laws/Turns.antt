@@ -1,5 +1,5 @@
 -- What paths take, over paths put together; a loop's turns add nothing to what the first adds.
-use Rattle.std.proofs.Common.{Bool, true, false, not, ◌&&◌, ◌||◌, ◌≡◌, refl, sym, ap, ◌∙◌, subst, ℕ, zero, suc, nat_eq, List, [], ◌∷◌, ◌++◌, map, if◌then◌else◌}
+use Rattle.std.proofs.Common.{Bool, true, false, not, ◌&&◌, ◌||◌, ◌≡◌, refl, sym, ap, ◌∙◌, ℕ, zero, suc, nat_eq, List, [], ◌∷◌, ◌++◌, map, if◌then◌else◌}
 use Rattle.flat_lang.specs.Paths.{Event, read, Ways, only, both, loops, takes, some_takes}
 
 -- there is a path

@@ -1,4 +1,7 @@
+pub mod Backwards
 pub mod Count
 pub mod Meaning
+pub mod Paths
+pub mod Renamed
 pub mod State
 pub mod Whole

@@ -1,1 +1,8 @@
+pub mod Check
+pub mod Kept
+pub mod Liveness
+pub mod Marks
+pub mod PlanOk
+pub mod Registers
 pub mod Slots
+pub mod Visit

@@ -2,10 +2,19 @@
 #![tactic(auto)]
 
 mod allocation;
+mod checking;
+mod laws;
+mod marks;
 mod plan;
+mod registers;
+mod visit;
+mod watch;
 
 pub use allocation::allocate;
-pub use plan::{At, Plan};
+pub use checking::{check_plan, live};
+pub use laws::places_keep;
+pub use plan::{At, Live, Plan};
+pub use registers::allocate_registers;
 
 #[cfg(test)]
 mod tests;

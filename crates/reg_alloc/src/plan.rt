@@ -15,3 +15,7 @@ pub enum At {
 pub struct Plan {
     pub places: List<At>,
 }
+
+/// Lists of variables: first those that are live at the start, then for each statement in preorder, a loop's test before
+/// its body, those that are live after it.
+pub type Live = List<List<u32>>;

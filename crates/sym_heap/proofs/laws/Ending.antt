@@ -15,7 +15,7 @@ use Rattle.sym_heap.specs.Moves.{IsSameArray, Follow, ParamsOnce}
 use Rattle.sym_heap.specs.Settle.{IsKnown, FitsRest, among}
 use Rattle.sym_heap.proofs.laws.EndScopes.{Mapped, mapped, Later, later}
 use Rattle.sym_heap.proofs.laws.Lookups.{PlaceOf, clause_stands, scalar_stands, clause_found}
-use Rattle.sym_heap.proofs.laws.States.{MoreTops, known_of, known_same, known_more, wider_known}
+use Rattle.sym_heap.proofs.laws.States.{MoreTops, known_of, consistent_of, known_same, known_more, wider_known}
 
 -- Contexts after ends.
 
@@ -124,6 +124,10 @@ over_self c s tops = record {
   tops = tops;
   arrays = λ i j at. record { before = j; at = at; param = refl; size = refl; pointer = refl; length_same = refl; length_local = refl };
 }
+
+pub over_consistent : (c d : Context) → IsConsistent c → IsOver c d → IsConsistent d
+over_consistent c d s over = consistent_of d over.known (λ i j h k at_i at_j differ.
+    (s.scalars_apart i j h k (ap (λ hs. slice_get hs i) (sym over.scalars) ∙ at_i) (ap (λ hs. slice_get hs j) (sym over.scalars) ∙ at_j) differ).1)
 
 -- States.
 

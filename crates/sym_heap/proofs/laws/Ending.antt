@@ -1,21 +1,21 @@
 -- What a state at the end of a block says of the context that is gone back to.
-use Rattle.std.proofs.Common.{◌≡◌, ◌≢◌, refl, sym, ◌∙◌, ap, subst, arith, ℕ, ◌+◌, ◌<◌, ◌≤◌, ◌%◌, ◌^◌, Bool, true, false, List, [], ◌∷◌, length, map, Option, Some, None, ℤ, pos, ◌≤ℤ◌, slice_get}
+use Rattle.std.proofs.Common.{◌≡◌, ◌≢◌, refl, sym, ◌∙◌, ap, subst, arith, ℕ, ◌+◌, ◌≤◌, ◌%◌, ◌^◌, Bool, true, false, List, length, map, Option, Some, ℤ, pos, ◌≤ℤ◌, slice_get}
 use Rattle.std.proofs.lemmas.Option.{slice_get_within}
 use Rattle.rup_base.specs.declared.arg.Arg.{Arg}
 use Rattle.rv_memory.specs.Ranges.{Bytes, Apart, Stands}
 use Rattle.side_certs.specs.LinearForm.{LinearForm, value_at}
-use Rattle.model_syntax.specs.Environment.{Env, value_of, elements}
+use Rattle.model_syntax.specs.Environment.{Env, value_of}
 use Rattle.model_syntax.specs.Names.{Name, same, listed}
 use Rattle.sym_heap.specs.declared.parts.Held.{Held}
 use Rattle.sym_heap.specs.declared.parts.Clause.{Clause}
-use Rattle.sym_heap.specs.Context.{Context, scalar, own, has, back_to}
+use Rattle.sym_heap.specs.Context.{Context, scalar, has, back_to}
 use Rattle.sym_heap.specs.Ends.{of_param, taken_over, at_ends, standing, with_ends}
 use Rattle.sym_heap.specs.Fits.{Call, Locals, IsArray, array_bytes, range_of, Known, IsConsistent, ScalarFits, ClauseFits, FitsBy, Agree}
-use Rattle.sym_heap.specs.Moves.{IsSameArray, Follow, ParamsOnce}
+use Rattle.sym_heap.specs.Moves.{Follow, ParamsOnce}
 use Rattle.sym_heap.specs.Settle.{IsKnown, FitsRest, among}
-use Rattle.sym_heap.proofs.laws.EndScopes.{Mapped, mapped, Later, later}
-use Rattle.sym_heap.proofs.laws.Lookups.{PlaceOf, clause_stands, scalar_stands, clause_found}
-use Rattle.sym_heap.proofs.laws.States.{MoreTops, known_of, consistent_of, known_same, known_more, wider_known}
+use Rattle.sym_heap.proofs.laws.EndScopes.{mapped, later}
+use Rattle.sym_heap.proofs.laws.Lookups.{clause_stands, scalar_stands, clause_found}
+use Rattle.sym_heap.proofs.laws.States.{MoreTops, known_of, consistent_of, known_same, wider_known}
 
 -- Contexts after ends.
 

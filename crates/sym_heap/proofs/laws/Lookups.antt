@@ -1,13 +1,13 @@
 -- What a context finds by name after its calls: scalars and clauses.
-use Rattle.std.proofs.Common.{◌≡◌, ◌≢◌, refl, sym, ◌∙◌, ap, subst, arith, ℕ, zero, suc, inl, inr, ◌⊎◌, Bool, true, false, List, [], ◌∷◌, Option, Some, None, slice_get, if◌then◌else◌, option_map}
+use Rattle.std.proofs.Common.{◌≡◌, refl, sym, ◌∙◌, ap, subst, arith, ℕ, zero, suc, inl, inr, ◌⊎◌, Bool, true, false, List, [], ◌∷◌, Option, Some, None, slice_get, if◌then◌else◌, option_map}
 use Rattle.std.specs.List.{find}
 use Rattle.model_syntax.specs.Names.{Name, same}
 use Rattle.model_syntax.proofs.laws.Bindings.{same_is, same_self}
 use Rattle.sym_heap.specs.declared.parts.Held.{Held}
 use Rattle.sym_heap.specs.declared.parts.Clause.{Clause}
-use Rattle.sym_heap.specs.Context.{Context, scalar, own, is_scalar, is_clause, change_first, without_first, with_scalar, with_clause, without_clause, renamed, written}
+use Rattle.sym_heap.specs.Context.{Context, scalar, own, is_clause, change_first, without_first, with_scalar, with_clause, without_clause, renamed, written}
 use Rattle.sym_heap.specs.Fits.{IsConsistent}
-use Rattle.sym_heap.proofs.Fitting.{Somewhere, somewhere}
+use Rattle.sym_heap.proofs.Fitting.{somewhere}
 use Rattle.sym_heap.proofs.Named.{unlike, apart_back, is_named, Once, once_behind, find_put}
 
 -- Names.

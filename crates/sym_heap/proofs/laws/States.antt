@@ -1,25 +1,24 @@
 -- Which other states and contexts fit where one does: other locals, more symbols, and a scalar bound.
-use Rattle.std.proofs.Common.{◌≡◌, ◌≢◌, refl, sym, ◌∙◌, ap, subst, arith, ℕ, zero, suc, ◌+◌, ◌<◌, ◌≤◌, inl, inr, ◌⊎◌, Bool, true, false, not, ◌&&◌, ◌||◌, List, [], ◌∷◌, ◌++◌, length, take, Option, Some, None, ℤ, pos, ◌≤ℤ◌, slice_get, nat_eq, nat_lt, if◌then◌else◌}
-use Rattle.std.specs.List.{list_any, list_all}
-use Rattle.std.proofs.lemmas.Bool.{ltb-true, ltb-false}
+use Rattle.std.proofs.Common.{◌≡◌, ◌≢◌, refl, sym, ◌∙◌, ap, subst, arith, ℕ, zero, suc, ◌<◌, ◌≤◌, inl, inr, Bool, true, false, not, ◌&&◌, ◌||◌, List, [], ◌∷◌, length, take, Option, Some, None, ℤ, pos, ◌≤ℤ◌, slice_get, nat_eq, nat_lt, if◌then◌else◌}
+use Rattle.std.specs.List.{list_all}
+use Rattle.std.proofs.lemmas.Bool.{ltb-true}
 use Rattle.std.proofs.lemmas.Bool.Decides.{nat_tests}
 use Rattle.std.proofs.lemmas.Option.{slice_get_within}
 use Rattle.rup_base.specs.declared.arg.Arg.{Arg}
 use Rattle.rup_base.specs.declared.arg.Arg.TheVariants as arg
-use Rattle.rv_memory.specs.Ranges.{Bytes, Stands}
+use Rattle.rv_memory.specs.Ranges.{Bytes}
 use Rattle.side_certs.specs.LinearForm.{LinearForm, value_at}
-use Rattle.side_certs.specs.Closes.{Holds}
 use Rattle.side_certs.proofs.laws.Coefficients.{Below}
 use Rattle.side_certs.proofs.laws.Values.{value_same}
 use Rattle.model_syntax.specs.Environment.{Env, value_of, put}
 use Rattle.model_syntax.specs.Names.{Name, same}
-use Rattle.model_syntax.proofs.laws.Bindings.{same_is, same_self, value_here, value_else}
+use Rattle.model_syntax.proofs.laws.Bindings.{same_is, value_here, value_else}
 use Rattle.sym_heap.specs.declared.parts.Held.{Held}
 use Rattle.sym_heap.specs.declared.parts.Clause.{Clause}
 use Rattle.sym_heap.specs.Context.{Context, scalar, own, has, is_free, leaves_free, top_of, with_scalar, back_to}
 use Rattle.sym_heap.specs.Fits.{Call, Locals, Known, IsConsistent, ScalarFits, ClauseFits, FitsBy, ArgsHeld, Agree}
 use Rattle.sym_heap.specs.Settle.{IsKnown, FitsRest, LocalsKept, none, with_tops, or_nothing}
-use Rattle.sym_heap.proofs.laws.Lookups.{PlaceOf, scalar_stands, clause_stands, scalar_bound, name_of_scalar, names_differ, differ_back}
+use Rattle.sym_heap.proofs.laws.Lookups.{scalar_stands, clause_stands, scalar_bound, name_of_scalar, differ_back}
 use Rattle.sym_heap.proofs.Named.{PutAt, put_at, put_once}
 
 -- Forms and numbers.

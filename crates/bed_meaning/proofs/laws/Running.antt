@@ -1,5 +1,5 @@
 -- What holds of runs: fuel from which on the meaning ends as the run does, and what no run changes.
-use Rattle.std.proofs.Common.{◌≡◌, ◌≢◌, refl, sym, ◌∙◌, ap, subst, arith, ℕ, zero, suc, ◌+◌, ◌-◌, ◌*◌, ◌/◌, ◌%◌, ◌<◌, ◌≤◌, Bool, true, false, List, [], ◌∷◌, length, map, Option, Some, None, Result, Ok, Err, nat_eq, nat_lt, slice_set, if◌then◌else◌}
+use Rattle.std.proofs.Common.{◌≡◌, refl, sym, ◌∙◌, ap, subst, arith, ℕ, zero, suc, ◌+◌, ◌-◌, ◌/◌, ◌%◌, ◌<◌, ◌≤◌, Bool, true, false, length, map, Option, Some, None, Result, Ok, nat_eq, nat_lt, slice_set}
 use Rattle.std.specs.Prelude.{is_some}
 use Rattle.std.specs.FinMap.{get, insert}
 use Rattle.std.proofs.lemmas.Bool.{eqb-true}
@@ -14,11 +14,10 @@ use Rattle.bed_syntax.specs.declared.expression.BExpr.{BExpr}
 use Rattle.bed_syntax.specs.declared.command.Cmd.{Cmd, Cmd-F, roll-Cmd, map-Cmd, fold-roll-Cmd}
 use Rattle.bed_syntax.specs.declared.command.Cmd.TheOpen as c
 use Rattle.bed_meaning.specs.declared.halt.Halt.{Halt}
-use Rattle.bed_meaning.specs.Access.{Bytes, width, low_high, word, loaded, stored, where_some, store}
+use Rattle.bed_meaning.specs.Access.{Bytes, width, low_high, word, stored, where_some, store}
 use Rattle.bed_meaning.specs.Locals.{Vars, assigned}
-use Rattle.bed_meaning.specs.Value.{value}
 use Rattle.bed_meaning.specs.State.{State}
-use Rattle.bed_meaning.specs.Meaning.{Rule, and_then, in_turn, loop_of, run_step, run, finish, exec}
+use Rattle.bed_meaning.specs.Meaning.{Rule, and_then, in_turn, loop_of, run_step, run, finish}
 use Rattle.bed_meaning.specs.Runs.{Part, One, All, Loop, Runs, sets, stores, firsts, seconds, seqs, whiles, done, next, ends, turns, FuelFor, Shape}
 
 -- Fuel.
@@ -92,12 +91,14 @@ claimed w part mem vars after left i (done m vs) =
     (0, λ n k. (let same_ticks : k ≡ k + 0 = omega arith in ap (λ t. Ok (state n t m vs)) same_ticks))
 claimed w part mem vars after left i (next p ps one rest m m1 m2 vs vs1 vs2 first others) =
     let h : Takes (run w p) m vs m1 vs1 one = claimed w (One p) m vs m1 vs1 one first in
-    let g : Takes (in_turn (map (run w) ps)) m1 vs1 m2 vs2 rest = claimed w (All ps) m1 vs1 m2 vs2 rest others in
-    (more h.0 g.0, λ n k.
-    ap (λ f. and_then (run w p (state f k m vs)) (in_turn (map (run w) ps))) (more_more h.0 g.0 n)
-    ∙ ap (λ r. and_then r (in_turn (map (run w) ps))) (h.1 (more g.0 n) k)
-    ∙ g.1 n (k + one)
-    ∙ later n k one rest m2 vs2)
+    let g : Takes (in_turn (map (run w) ps)) m1 vs1 m2 vs2 rest = claimed w (All ps) m1 vs1 m2 vs2 rest others in (
+      more h.0 g.0,
+      λ n k.
+          ap (λ f. and_then (run w p (state f k m vs)) (in_turn (map (run w) ps))) (more_more h.0 g.0 n)
+          ∙ ap (λ r. and_then r (in_turn (map (run w) ps))) (h.1 (more g.0 n) k)
+          ∙ g.1 n (k + one)
+          ∙ later n k one rest m2 vs2,
+    )
 claimed w part mem vars after left i (ends e p m vs is) =
     (0, λ b n k less. at_end b n k less)
   where

@@ -96,9 +96,10 @@ ends_over names c one two s a = record {
     lengths_known = λ i j at. (let e = clause i j at in subst (λ (f : LinearForm). Known (length two.tops) f) (sym e.was.length_same) (wide.lengths_known i e.was.before e.was.at));
     facts_known = wide.facts_known;
     scalars_once = wide.scalars_once;
-    clauses_apart = λ i j k l at_i at_j differ. (let e = clause i k at_i in let f = clause j l at_j in
-        (ap (λ x. same x l.name) e.name ∙ ap (same e.last.name) f.name ∙ a.names_once i j e.last f.last e.at_last f.at_last differ,
-        λ is. (s.clauses_apart i j e.was.before f.was.before e.was.at f.was.at differ).1 (sym e.was.param ∙ is ∙ f.was.param)));
+    clauses_apart = λ i j k l at_i at_j differ. (let e = clause i k at_i in let f = clause j l at_j in (
+      ap (λ x. same x l.name) e.name ∙ ap (same e.last.name) f.name ∙ a.names_once i j e.last f.last e.at_last f.at_last differ,
+      λ is. (s.clauses_apart i j e.was.before f.was.before e.was.at f.was.at differ).1 (sym e.was.param ∙ is ∙ f.was.param),
+    ));
     pointers_reserved = λ i j at. (let e = clause i j at in ap (λ p. has p c.reserved) e.was.pointer ∙ s.pointers_reserved i e.was.before e.was.at);
     lengths_reserved = λ i j l at is. (let e = clause i j at in s.lengths_reserved i e.was.before l e.was.at (sym e.was.length_local ∙ is));
   };
@@ -149,8 +150,11 @@ ends_fit names call v u w c d end_ env end_env after_env mem end_mem locals end_
   entry_count = over.entries ∙ fits.entry_count;
   entries = λ s n at. (let less = slice_get_within call.entries s n at in let count = fits.entry_count in let few = fits.consistent.entries_known in
       agree s (omega (arith, less, count, few)) ∙ fits.entries s n at);
-  holds = (λ i f at. (let old : slice_get c.facts i ≡ Some f = ap (λ fs. slice_get fs i) (sym over.facts) ∙ at in
-      subst (λ (z : ℤ). pos 0 ≤ℤ z) (sym (known_same (length c.tops) f v w (fits.consistent.facts_known i f old) agree)) (fits.holds.0 i f old)), below);
+  holds = (
+    λ i f at. (let old : slice_get c.facts i ≡ Some f = ap (λ fs. slice_get fs i) (sym over.facts) ∙ at in
+        subst (λ (z : ℤ). pos 0 ≤ℤ z) (sym (known_same (length c.tops) f v w (fits.consistent.facts_known i f old) agree)) (fits.holds.0 i f old)),
+    below,
+  );
   scalars = λ x h at free. scalar_fits x h (sym (ap (λ hs. scalar (record c { scalars = hs }) x) over.scalars) ∙ at) free;
   clauses = λ a j at. (let p = clause_stands d a j at in
       subst (λ (y : Name). ClauseFits call w j (value_of after_env y) end_mem end_locals) p.named (clause_fits p.place j p.at (over.arrays p.place j p.at)));

@@ -46,8 +46,9 @@ renamed_consistent c a b new s = record {
   facts_known = s.facts_known;
   scalars_apart = s.scalars_apart;
   clauses_apart = λ i j k l at_i at_j differ. (
-      names i j k l differ (changed_at name_of_clause a (renamed b) c.clauses i k at_i) (changed_at name_of_clause a (renamed b) c.clauses j l at_j),
-      params i j k l differ (before a b c.clauses i k at_i) (before a b c.clauses j l at_j));
+    names i j k l differ (changed_at name_of_clause a (renamed b) c.clauses i k at_i) (changed_at name_of_clause a (renamed b) c.clauses j l at_j),
+    params i j k l differ (before a b c.clauses i k at_i) (before a b c.clauses j l at_j),
+  );
   pointers_reserved = λ i k at. (let w = before a b c.clauses i k at in ap (λ p. has p c.reserved) w.pointer ∙ s.pointers_reserved i w.clause w.at);
   lengths_reserved = λ i k l at is. (let w = before a b c.clauses i k at in s.lengths_reserved i w.clause l w.at (sym w.length_local ∙ is));
 } where

@@ -236,23 +236,23 @@ wider_rest spared call v w c tops env mem locals more agree below fits = record 
       agree s (omega (arith, less, count, few)) ∙ fits.entries s n at);
   holds = (λ i f at. subst (λ (z : ℤ). pos 0 ≤ℤ z) (sym (known_same (length c.tops) f v w (known.facts_known i f at) agree)) (fits.holds.0 i f at), below);
   scalars = λ x h at free. (let f = fits.scalars x h at free in let p = scalar_stands c x h at in record {
-      number = f.number;
-      value = f.value;
-      kind = f.kind;
-      form = known_same (length c.tops) h.form v w (known.scalars_known p.place h p.at) agree ∙ f.form;
-      local = f.local;
-    });
+    number = f.number;
+    value = f.value;
+    kind = f.kind;
+    form = known_same (length c.tops) h.form v w (known.scalars_known p.place h p.at) agree ∙ f.form;
+    local = f.local;
+  });
   clauses = λ a k at. (let f = fits.clauses a k at in let p = clause_stands c a k at in record {
-      array = f.array;
-      form = known_same (length c.tops) k.length v w (known.lengths_known p.place k p.at) agree ∙ f.form;
-      length_local = f.length_local;
-      parameter = f.parameter;
-      pointer = f.pointer;
-      stands = f.stands;
-      few = f.few;
-      aligned = f.aligned;
-      ends = f.ends;
-    });
+    array = f.array;
+    form = known_same (length c.tops) k.length v w (known.lengths_known p.place k p.at) agree ∙ f.form;
+    length_local = f.length_local;
+    parameter = f.parameter;
+    pointer = f.pointer;
+    stands = f.stands;
+    few = f.few;
+    aligned = f.aligned;
+    ends = f.ends;
+  });
   ranges = fits.ranges;
 } where
   known : IsKnown c

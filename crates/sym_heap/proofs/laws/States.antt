@@ -177,7 +177,7 @@ moved_locals call v c env mem l before after free set fits = fits_locals call v 
 
 -- More symbols.
 
-taken_length : (xs ys : List ℕ) → take (length xs) ys ≡ xs → length xs ≤ length ys
+pub taken_length : (xs ys : List ℕ) → take (length xs) ys ≡ xs → length xs ≤ length ys
 taken_length [] ys is = omega arith
 taken_length (x ∷ xs) [] is = absurd (let bad : [] ≡ x ∷ xs = is in cc)
 taken_length (x ∷ xs) (y ∷ ys) is =

@@ -1,5 +1,5 @@
 -- Runs of commands without fuel: what a command makes of memory and locals, and in how many ticks.
-use Rattle.std.specs.Prelude.{◌≡◌, ℕ, zero, suc, ◌+◌, ◌≤◌, Bool, List, [], ◌∷◌, length, Some, is_some, Ok}
+use Rattle.std.specs.Prelude.{◌≡◌, ℕ, suc, ◌+◌, ◌≤◌, List, [], ◌∷◌, length, Some, is_some, Ok}
 use Rattle.std.specs.FinMap.{get}
 use Rattle.bed_syntax.specs.Weight.{expr_weight}
 use Rattle.bed_syntax.specs.declared.weights.Weights.{Weights}

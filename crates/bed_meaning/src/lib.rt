@@ -6,7 +6,7 @@ mod access;
 mod evaluation;
 mod execution;
 mod halt;
-mod laws;
+pub mod laws;
 mod locals;
 
 pub use execution::{BEnd, exec};

@@ -1,6 +1,6 @@
 -- A context and a typing scope say the same of names: which are scalars and of what type, and which are arrays, with what
 -- elements and length.
-use Rattle.std.specs.Prelude.{◌≡◌, ◌≢◌, ℕ, ◌≤◌, true, false, List, [], ◌∷◌, length, Option, Some, None, is_some, slice_get, pos, Ok}
+use Rattle.std.specs.Prelude.{◌≡◌, ◌≢◌, ℕ, ◌≤◌, true, false, List, [], length, Option, Some, None, is_some, slice_get, pos, Ok}
 use Rattle.side_certs.specs.LinearForm.{LinearForm, constant, symbol}
 use Rattle.model_syntax.specs.declared.expr.Scalar.{Scalar}
 use Rattle.model_syntax.specs.declared.expr.Scalar.TheVariants.{Word, Byte, Flag}

@@ -6,7 +6,6 @@ use Rattle.rup_base.specs.declared.arg.Arg.TheVariants as arg
 use Rattle.rv_memory.specs.Ranges.{Bytes, Apart}
 use Rattle.side_certs.specs.LinearForm.{LinearForm, symbol}
 use Rattle.side_certs.specs.Closes.{Holds}
-use Rattle.model_syntax.specs.declared.expr.Scalar.{Scalar}
 use Rattle.model_syntax.specs.Environment.{Env, value_of}
 use Rattle.model_syntax.specs.Names.{Name, same, listed}
 use Rattle.sym_heap.specs.declared.parts.Held.{Held}

@@ -1,5 +1,5 @@
 -- What holds of runs: fuel from which on the meaning ends as the run does, and what no run changes.
-use Rattle.std.proofs.Common.{◌≡◌, ◌≢◌, refl, sym, ◌∙◌, ap, subst, arith, ℕ, zero, suc, ◌+◌, ◌-◌, ◌*◌, ◌/◌, ◌%◌, ◌<◌, ◌≤◌, Bool, true, false, List, [], ◌∷◌, length, map, Option, Some, None, Result, Ok, Err, nat_eq, nat_lt, slice_set, if◌then◌else◌}
+use Rattle.std.proofs.Common.{◌≡◌, refl, sym, ◌∙◌, ap, subst, arith, ℕ, zero, suc, ◌+◌, ◌-◌, ◌/◌, ◌%◌, ◌<◌, ◌≤◌, Bool, true, false, List, [], ◌∷◌, ◌++◌, length, map, Option, Some, None, Result, Ok, nat_eq, nat_lt, slice_set}
 use Rattle.std.specs.Prelude.{is_some}
 use Rattle.std.specs.FinMap.{get, insert}
 use Rattle.std.proofs.lemmas.Bool.{eqb-true}
@@ -14,11 +14,10 @@ use Rattle.bed_syntax.specs.declared.expression.BExpr.{BExpr}
 use Rattle.bed_syntax.specs.declared.command.Cmd.{Cmd, Cmd-F, roll-Cmd, map-Cmd, fold-roll-Cmd}
 use Rattle.bed_syntax.specs.declared.command.Cmd.TheOpen as c
 use Rattle.bed_meaning.specs.declared.halt.Halt.{Halt}
-use Rattle.bed_meaning.specs.Access.{Bytes, width, low_high, word, loaded, stored, where_some, store}
+use Rattle.bed_meaning.specs.Access.{Bytes, width, low_high, word, stored, where_some, store}
 use Rattle.bed_meaning.specs.Locals.{Vars, assigned}
-use Rattle.bed_meaning.specs.Value.{value}
 use Rattle.bed_meaning.specs.State.{State}
-use Rattle.bed_meaning.specs.Meaning.{Rule, and_then, in_turn, loop_of, run_step, run, finish, exec}
+use Rattle.bed_meaning.specs.Meaning.{Rule, and_then, in_turn, loop_of, run_step, run, finish}
 use Rattle.bed_meaning.specs.Runs.{Part, One, All, Loop, Runs, sets, stores, firsts, seconds, seqs, whiles, done, next, ends, turns, FuelFor, Shape}
 
 -- Fuel.
@@ -215,3 +214,14 @@ shape_of_run w part mem vars after left i (next p ps one rest m m1 m2 vs vs1 vs2
 shape_of_run w part mem vars after left i (ends e p m vs is) = same_shape m vs
 shape_of_run w part mem vars after left i (turns e p v one rest m m1 m2 vs vs1 vs2 is first others) =
     shape_on m m1 m2 vs vs1 vs2 (shape_of_run w (One p) m vs m1 vs1 one first) (shape_of_run w (Loop e p) m1 vs1 m2 vs2 rest others)
+
+-- the commands of both lists, one after the other
+pub runs_append : (w : Weights) (ps qs : List Cmd) (mem between after : Bytes) (vars middle left : Vars) (i j : ℕ) → Runs w (All ps) mem vars between middle i
+    → Runs w (All qs) between middle after left j → Runs w (All (ps ++ qs)) mem vars after left (i + j)
+runs_append w ps qs mem between after vars middle left i j (done m v) second =
+    let sum : j ≡ 0 + j = omega arith in
+    subst (λ (n : ℕ). Runs w (All qs) m v after left n) sum second
+runs_append w ps qs mem between after vars middle left i j (next p others one rest m m1 m2 v v1 v2 first more_runs) second =
+    let sum : one + (rest + j) ≡ one + rest + j = omega arith in
+    subst (λ (n : ℕ). Runs w (All (p ∷ others ++ qs)) m v after left n) sum
+    (next p (others ++ qs) one (rest + j) m m1 after v v1 left first (runs_append w others qs m1 m2 after v1 v2 left rest j more_runs second))

@@ -58,6 +58,18 @@ later (m ∷ ks) [] i k follow at = absurd follow
 later (m ∷ ks) (l ∷ ls) zero k follow at = let is : m ≡ k = cc in record { clause = l; at = refl; same_one = subst (λ (z : Clause). IsSameArray z l) is follow.0 }
 later (m ∷ ks) (l ∷ ls) (suc i) k follow at = let n = later ks ls i k follow.1 at in record { clause = n.clause; at = n.at; same_one = n.same_one }
 
+pub record Earlier (ks : List Clause) (i : ℕ) (l : Clause) : Type 0 where
+  pub clause : Clause
+  pub at : slice_get ks i ≡ Some clause
+  pub same_one : IsSameArray clause l
+
+pub earlier : (ks ls : List Clause) (i : ℕ) (l : Clause) → Follow ks ls → slice_get ls i ≡ Some l → Earlier ks i l
+earlier [] [] i l follow at = absurd (let bad : None ≡ Some l = at in cc)
+earlier [] (m ∷ ls) i l follow at = absurd follow
+earlier (k ∷ ks) [] i l follow at = absurd follow
+earlier (k ∷ ks) (m ∷ ls) zero l follow at = let is : m ≡ l = cc in record { clause = k; at = refl; same_one = subst (λ (z : Clause). IsSameArray k z) is follow.0 }
+earlier (k ∷ ks) (m ∷ ls) (suc i) l follow at = let n = earlier ks ls i l follow.1 at in record { clause = n.clause; at = n.at; same_one = n.same_one }
+
 -- a clause after the ends has the name of the first end, and is otherwise the array of before
 record IsTaken (k l j : Clause) : Type 0 where
   pub name : j.name ≡ l.name

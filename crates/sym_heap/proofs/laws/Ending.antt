@@ -1,21 +1,21 @@
 -- What a state at the end of a block says of the context that is gone back to.
-use Rattle.std.proofs.Common.{◌≡◌, ◌≢◌, refl, sym, ◌∙◌, ap, subst, arith, ℕ, ◌+◌, ◌<◌, ◌≤◌, ◌%◌, ◌^◌, Bool, true, false, List, [], ◌∷◌, length, map, Option, Some, None, ℤ, pos, ◌≤ℤ◌, slice_get}
+use Rattle.std.proofs.Common.{◌≡◌, ◌≢◌, refl, sym, ◌∙◌, ap, subst, arith, ℕ, ◌+◌, ◌≤◌, ◌%◌, ◌^◌, Bool, true, false, List, length, map, Option, Some, ℤ, pos, ◌≤ℤ◌, slice_get}
 use Rattle.std.proofs.lemmas.Option.{slice_get_within}
 use Rattle.rup_base.specs.declared.arg.Arg.{Arg}
 use Rattle.rv_memory.specs.Ranges.{Bytes, Apart, Stands}
 use Rattle.side_certs.specs.LinearForm.{LinearForm, value_at}
-use Rattle.model_syntax.specs.Environment.{Env, value_of, elements}
+use Rattle.model_syntax.specs.Environment.{Env, value_of}
 use Rattle.model_syntax.specs.Names.{Name, same, listed}
 use Rattle.sym_heap.specs.declared.parts.Held.{Held}
 use Rattle.sym_heap.specs.declared.parts.Clause.{Clause}
-use Rattle.sym_heap.specs.Context.{Context, scalar, own, has, back_to}
+use Rattle.sym_heap.specs.Context.{Context, scalar, has, back_to}
 use Rattle.sym_heap.specs.Ends.{of_param, taken_over, at_ends, standing, with_ends}
 use Rattle.sym_heap.specs.Fits.{Call, Locals, IsArray, array_bytes, range_of, Known, IsConsistent, ScalarFits, ClauseFits, FitsBy, Agree}
-use Rattle.sym_heap.specs.Moves.{IsSameArray, Follow, ParamsOnce}
+use Rattle.sym_heap.specs.Moves.{Follow, ParamsOnce}
 use Rattle.sym_heap.specs.Settle.{IsKnown, FitsRest, among}
-use Rattle.sym_heap.proofs.laws.EndScopes.{Mapped, mapped, Later, later}
-use Rattle.sym_heap.proofs.laws.Lookups.{PlaceOf, clause_stands, scalar_stands, clause_found}
-use Rattle.sym_heap.proofs.laws.States.{MoreTops, known_of, known_same, known_more, wider_known}
+use Rattle.sym_heap.proofs.laws.EndScopes.{mapped, later}
+use Rattle.sym_heap.proofs.laws.Lookups.{clause_stands, scalar_stands, clause_found}
+use Rattle.sym_heap.proofs.laws.States.{MoreTops, known_of, consistent_of, known_same, wider_known}
 
 -- Contexts after ends.
 
@@ -96,9 +96,10 @@ ends_over names c one two s a = record {
     lengths_known = λ i j at. (let e = clause i j at in subst (λ (f : LinearForm). Known (length two.tops) f) (sym e.was.length_same) (wide.lengths_known i e.was.before e.was.at));
     facts_known = wide.facts_known;
     scalars_once = wide.scalars_once;
-    clauses_apart = λ i j k l at_i at_j differ. (let e = clause i k at_i in let f = clause j l at_j in
-        (ap (λ x. same x l.name) e.name ∙ ap (same e.last.name) f.name ∙ a.names_once i j e.last f.last e.at_last f.at_last differ,
-        λ is. (s.clauses_apart i j e.was.before f.was.before e.was.at f.was.at differ).1 (sym e.was.param ∙ is ∙ f.was.param)));
+    clauses_apart = λ i j k l at_i at_j differ. (let e = clause i k at_i in let f = clause j l at_j in (
+      ap (λ x. same x l.name) e.name ∙ ap (same e.last.name) f.name ∙ a.names_once i j e.last f.last e.at_last f.at_last differ,
+      λ is. (s.clauses_apart i j e.was.before f.was.before e.was.at f.was.at differ).1 (sym e.was.param ∙ is ∙ f.was.param),
+    ));
     pointers_reserved = λ i j at. (let e = clause i j at in ap (λ p. has p c.reserved) e.was.pointer ∙ s.pointers_reserved i e.was.before e.was.at);
     lengths_reserved = λ i j l at is. (let e = clause i j at in s.lengths_reserved i e.was.before l e.was.at (sym e.was.length_local ∙ is));
   };
@@ -125,6 +126,10 @@ over_self c s tops = record {
   arrays = λ i j at. record { before = j; at = at; param = refl; size = refl; pointer = refl; length_same = refl; length_local = refl };
 }
 
+pub over_consistent : (c d : Context) → IsConsistent c → IsOver c d → IsConsistent d
+over_consistent c d s over = consistent_of d over.known (λ i j h k at_i at_j differ.
+    (s.scalars_apart i j h k (ap (λ hs. slice_get hs i) (sym over.scalars) ∙ at_i) (ap (λ hs. slice_get hs j) (sym over.scalars) ∙ at_j) differ).1)
+
 -- States.
 
 -- the arrays and the scalars that are not listed after a block
@@ -145,8 +150,11 @@ ends_fit names call v u w c d end_ env end_env after_env mem end_mem locals end_
   entry_count = over.entries ∙ fits.entry_count;
   entries = λ s n at. (let less = slice_get_within call.entries s n at in let count = fits.entry_count in let few = fits.consistent.entries_known in
       agree s (omega (arith, less, count, few)) ∙ fits.entries s n at);
-  holds = (λ i f at. (let old : slice_get c.facts i ≡ Some f = ap (λ fs. slice_get fs i) (sym over.facts) ∙ at in
-      subst (λ (z : ℤ). pos 0 ≤ℤ z) (sym (known_same (length c.tops) f v w (fits.consistent.facts_known i f old) agree)) (fits.holds.0 i f old)), below);
+  holds = (
+    λ i f at. (let old : slice_get c.facts i ≡ Some f = ap (λ fs. slice_get fs i) (sym over.facts) ∙ at in
+        subst (λ (z : ℤ). pos 0 ≤ℤ z) (sym (known_same (length c.tops) f v w (fits.consistent.facts_known i f old) agree)) (fits.holds.0 i f old)),
+    below,
+  );
   scalars = λ x h at free. scalar_fits x h (sym (ap (λ hs. scalar (record c { scalars = hs }) x) over.scalars) ∙ at) free;
   clauses = λ a j at. (let p = clause_stands d a j at in
       subst (λ (y : Name). ClauseFits call w j (value_of after_env y) end_mem end_locals) p.named (clause_fits p.place j p.at (over.arrays p.place j p.at)));

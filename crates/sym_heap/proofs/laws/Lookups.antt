@@ -1,13 +1,13 @@
 -- What a context finds by name after its calls: scalars and clauses.
-use Rattle.std.proofs.Common.{◌≡◌, ◌≢◌, refl, sym, ◌∙◌, ap, subst, arith, ℕ, zero, suc, inl, inr, ◌⊎◌, Bool, true, false, List, [], ◌∷◌, Option, Some, None, slice_get, if◌then◌else◌, option_map}
+use Rattle.std.proofs.Common.{◌≡◌, refl, sym, ◌∙◌, ap, subst, arith, ℕ, zero, suc, inl, inr, ◌⊎◌, Bool, true, false, List, [], ◌∷◌, Option, Some, None, slice_get, if◌then◌else◌, option_map}
 use Rattle.std.specs.List.{find}
 use Rattle.model_syntax.specs.Names.{Name, same}
 use Rattle.model_syntax.proofs.laws.Bindings.{same_is, same_self}
 use Rattle.sym_heap.specs.declared.parts.Held.{Held}
 use Rattle.sym_heap.specs.declared.parts.Clause.{Clause}
-use Rattle.sym_heap.specs.Context.{Context, scalar, own, is_scalar, is_clause, change_first, without_first, with_scalar, with_clause, without_clause, renamed, written}
+use Rattle.sym_heap.specs.Context.{Context, scalar, own, is_clause, change_first, without_first, with_scalar, with_clause, without_clause, renamed, written}
 use Rattle.sym_heap.specs.Fits.{IsConsistent}
-use Rattle.sym_heap.proofs.Fitting.{Somewhere, somewhere}
+use Rattle.sym_heap.proofs.Fitting.{somewhere}
 use Rattle.sym_heap.proofs.Named.{unlike, apart_back, is_named, Once, once_behind, find_put}
 
 -- Names.
@@ -122,21 +122,21 @@ renamed_found a b k [] once is new z = absurd (let bad : None ≡ Some k = is in
 renamed_found a b k (x ∷ xs) once is new z = by (same x.name a) refl (same b z) refl (same a z) refl (same x.name z) refl
     (λ found is_new. renamed_found a b k xs (once_behind name_of_clause x xs once) found is_new z)
   where
-  first : same x.name a ≡ true → x ≡ k
-  first e = let both : Some x ≡ Some k = rw e at is in cc
+    first : same x.name a ≡ true → x ≡ k
+    first e = let both : Some x ≡ Some k = rw e at is in cc
 
-  by : (p : Bool) → same x.name a ≡ p → (q : Bool) → same b z ≡ q → (r : Bool) → same a z ≡ r → (s : Bool) → same x.name z ≡ s
-      → (find (is_clause a) xs ≡ Some k → IsNew a b xs → find (is_clause z) (change_first (is_clause a) (renamed b) xs) ≡ (if same b z then Some (renamed b k) else (if same a z then None else find (is_clause z) xs)))
-      → find (is_clause z) (change_first (is_clause a) (renamed b) (x ∷ xs)) ≡ (if same b z then Some (renamed b k) else (if same a z then None else find (is_clause z) (x ∷ xs)))
-  by true e true q r f s g more = rw (e, q) (ap Some (ap (renamed b) (first e)))
-  by true e false q true f s g more = rw (e, q, f) (nowhere_behind name_of_clause x xs z once (ap (same x.name) (sym (same_is a z f)) ∙ e))
-  by true e false q false f true g more = absurd (unlike a z f (sym (same_is x.name a e) ∙ same_is x.name z g))
-  by true e false q false f false g more = rw (e, q, f, g) refl
-  by false e true q r f true g more = absurd (unlike x.name b (new_behind a b x xs e new).0 (same_is x.name z g ∙ sym (same_is b z q)))
-  by false e false q true f true g more = absurd (unlike x.name a e (same_is x.name z g ∙ sym (same_is a z f)))
-  by false e false q false f true g more = rw (e, q, f, g) refl
-  by false e q t r f false g more =
-      rw (e, g) (more (rw e at is) (new_behind a b x xs e new).1)
+    by : (p : Bool) → same x.name a ≡ p → (q : Bool) → same b z ≡ q → (r : Bool) → same a z ≡ r → (s : Bool) → same x.name z ≡ s
+        → (find (is_clause a) xs ≡ Some k → IsNew a b xs → find (is_clause z) (change_first (is_clause a) (renamed b) xs) ≡ (if same b z then Some (renamed b k) else (if same a z then None else find (is_clause z) xs)))
+        → find (is_clause z) (change_first (is_clause a) (renamed b) (x ∷ xs)) ≡ (if same b z then Some (renamed b k) else (if same a z then None else find (is_clause z) (x ∷ xs)))
+    by true e true q r f s g more = rw (e, q) (ap Some (ap (renamed b) (first e)))
+    by true e false q true f s g more = rw (e, q, f) (nowhere_behind name_of_clause x xs z once (ap (same x.name) (sym (same_is a z f)) ∙ e))
+    by true e false q false f true g more = absurd (unlike a z f (sym (same_is x.name a e) ∙ same_is x.name z g))
+    by true e false q false f false g more = rw (e, q, f, g) refl
+    by false e true q r f true g more = absurd (unlike x.name b (new_behind a b x xs e new).0 (same_is x.name z g ∙ sym (same_is b z q)))
+    by false e false q true f true g more = absurd (unlike x.name a e (same_is x.name z g ∙ sym (same_is a z f)))
+    by false e false q false f true g more = rw (e, q, f, g) refl
+    by false e q t r f false g more =
+        rw (e, g) (more (rw e at is) (new_behind a b x xs e new).1)
 
 -- after a rename the new name has the clause, and the old one none
 pub own_renamed : (c : Context) (a b : Name) (k : Clause) → IsConsistent c → own c a ≡ Some k → IsNew a b c.clauses → (z : Name)

@@ -1,5 +1,5 @@
 -- A context fits where an array goes on under another name, with an element written.
-use Rattle.std.proofs.Common.{◌≡◌, ◌≢◌, refl, sym, ◌∙◌, ap, subst, arith, ℕ, ◌+◌, ◌<◌, inl, inr, Bool, true, false, List, [], ◌∷◌, length, Option, Some, None, slice_get, option_map, if◌then◌else◌}
+use Rattle.std.proofs.Common.{◌≡◌, ◌≢◌, refl, sym, ◌∙◌, ap, subst, arith, ℕ, ◌+◌, inl, inr, Bool, true, false, List, length, Option, Some, None, slice_get, option_map, if◌then◌else◌}
 use Rattle.rup_base.specs.declared.arg.Arg.{Arg}
 use Rattle.rup_base.specs.declared.arg.Arg.TheVariants as arg
 use Rattle.rv_memory.specs.Ranges.{Bytes, Apart}
@@ -11,9 +11,9 @@ use Rattle.sym_heap.specs.declared.parts.Held.{Held}
 use Rattle.sym_heap.specs.declared.parts.Clause.{Clause}
 use Rattle.sym_heap.specs.Context.{Context, scalar, own, has, is_clause, change_first, with_clause, renamed, written}
 use Rattle.sym_heap.specs.Fits.{Call, Locals, IsArray, range_of, Known, IsConsistent, ScalarFits, ClauseFits, FitsBy, ArgsHeld}
-use Rattle.sym_heap.specs.Writes.{IsWritten, IsMoved}
+use Rattle.sym_heap.specs.Writes.{IsMoved}
 use Rattle.sym_heap.proofs.Named.{ChangedAt, here, there, changed_at}
-use Rattle.sym_heap.proofs.laws.Lookups.{IsNew, name_of_clause, names_differ, differ_back, clause_found, own_counted, own_renamed}
+use Rattle.sym_heap.proofs.laws.Lookups.{IsNew, name_of_clause, differ_back, clause_found, own_counted, own_renamed}
 use Rattle.sym_heap.proofs.laws.Writes.{no_scalar, written_fits, counted_fits, counted_consistent}
 
 -- a clause after a rename is one of before, but for its name
@@ -46,8 +46,9 @@ renamed_consistent c a b new s = record {
   facts_known = s.facts_known;
   scalars_apart = s.scalars_apart;
   clauses_apart = λ i j k l at_i at_j differ. (
-      names i j k l differ (changed_at name_of_clause a (renamed b) c.clauses i k at_i) (changed_at name_of_clause a (renamed b) c.clauses j l at_j),
-      params i j k l differ (before a b c.clauses i k at_i) (before a b c.clauses j l at_j));
+    names i j k l differ (changed_at name_of_clause a (renamed b) c.clauses i k at_i) (changed_at name_of_clause a (renamed b) c.clauses j l at_j),
+    params i j k l differ (before a b c.clauses i k at_i) (before a b c.clauses j l at_j),
+  );
   pointers_reserved = λ i k at. (let w = before a b c.clauses i k at in ap (λ p. has p c.reserved) w.pointer ∙ s.pointers_reserved i w.clause w.at);
   lengths_reserved = λ i k l at is. (let w = before a b c.clauses i k at in s.lengths_reserved i w.clause l w.at (sym w.length_local ∙ is));
 } where

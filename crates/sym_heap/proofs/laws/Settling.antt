@@ -1,24 +1,22 @@
 -- Listed scalars get fresh symbols in the locals where another context has them.
-use Rattle.std.proofs.Common.{◌≡◌, ◌≢◌, refl, sym, ◌∙◌, ap, subst, arith, ℕ, zero, suc, ◌+◌, ◌<◌, ◌≤◌, inl, inr, ◌⊎◌, Bool, true, false, ◌||◌, List, [], ◌∷◌, ◌++◌, length, take, Option, Some, None, pos, ℤ, slice_get, nat_eq, if◌then◌else◌, length-append}
+use Rattle.std.proofs.Common.{◌≡◌, ◌≢◌, refl, sym, ◌∙◌, ap, subst, arith, ℕ, zero, suc, ◌+◌, ◌≤◌, inl, inr, ◌⊎◌, Bool, true, false, ◌||◌, List, [], ◌∷◌, ◌++◌, length, Option, Some, None, pos, ℤ, slice_get, nat_eq, if◌then◌else◌, length-append}
 use Rattle.std.proofs.lemmas.Bool.Decides.{nat_tests}
 use Rattle.std.proofs.lemmas.Option.{slice_get_within}
-use Rattle.rup_base.specs.declared.arg.Arg.{Arg}
 use Rattle.rup_base.specs.declared.arg.Arg.TheVariants as arg
 use Rattle.rv_memory.specs.Ranges.{Bytes}
-use Rattle.side_certs.specs.LinearForm.{LinearForm, symbol}
+use Rattle.side_certs.specs.LinearForm.{symbol}
 use Rattle.side_certs.proofs.laws.Values.{value_symbol}
 use Rattle.model_syntax.specs.declared.expr.Scalar.{Scalar}
 use Rattle.model_syntax.specs.Environment.{Env, value_of}
 use Rattle.model_syntax.specs.Names.{Name, same, listed}
 use Rattle.model_syntax.proofs.laws.Bindings.{same_is, same_self}
 use Rattle.sym_heap.specs.declared.parts.Held.{Held}
-use Rattle.sym_heap.specs.declared.parts.Clause.{Clause}
-use Rattle.sym_heap.specs.Context.{Context, scalar, own, has, held, top_of, with_top, with_scalar}
+use Rattle.sym_heap.specs.Context.{Context, scalar, has, held, top_of, with_top, with_scalar}
 use Rattle.sym_heap.specs.Moves.{local_of}
-use Rattle.sym_heap.specs.Fits.{Call, Locals, Known, IsConsistent, ScalarFits, FitsBy, Agree, FitsOn}
-use Rattle.sym_heap.specs.Settle.{IsKnown, FitsRest, LocalsKept, none, among, given, settled, settle, target, Stood, AllStood}
+use Rattle.sym_heap.specs.Fits.{Call, Locals, Known, IsConsistent, ScalarFits, Agree, FitsOn}
+use Rattle.sym_heap.specs.Settle.{IsKnown, FitsRest, none, among, given, settled, settle, target, Stood, AllStood}
 use Rattle.sym_heap.proofs.Arriving.{at_end}
-use Rattle.sym_heap.proofs.laws.Lookups.{PlaceOf, scalar_bound, scalar_stands, found_at, name_of_scalar, names_differ, differ_back}
+use Rattle.sym_heap.proofs.laws.Lookups.{scalar_bound, scalar_stands, found_at, name_of_scalar, names_differ, differ_back}
 use Rattle.sym_heap.proofs.laws.Moves.{take_front, take_on, take_all}
 use Rattle.sym_heap.proofs.laws.States.{agree_on, consistent_of, fits_of_rest, wider_known, wider_rest, bound_known, rest_bound, MoreTops}
 

@@ -1,25 +1,24 @@
 -- Which other states and contexts fit where one does: other locals, more symbols, and a scalar bound.
-use Rattle.std.proofs.Common.{◌≡◌, ◌≢◌, refl, sym, ◌∙◌, ap, subst, arith, ℕ, zero, suc, ◌+◌, ◌<◌, ◌≤◌, inl, inr, ◌⊎◌, Bool, true, false, not, ◌&&◌, ◌||◌, List, [], ◌∷◌, ◌++◌, length, take, Option, Some, None, ℤ, pos, ◌≤ℤ◌, slice_get, nat_eq, nat_lt, if◌then◌else◌}
-use Rattle.std.specs.List.{list_any, list_all}
-use Rattle.std.proofs.lemmas.Bool.{ltb-true, ltb-false}
+use Rattle.std.proofs.Common.{◌≡◌, ◌≢◌, refl, sym, ◌∙◌, ap, subst, arith, ℕ, zero, suc, ◌<◌, ◌≤◌, inl, inr, Bool, true, false, not, ◌&&◌, ◌||◌, List, [], ◌∷◌, length, take, Option, Some, None, ℤ, pos, ◌≤ℤ◌, slice_get, nat_eq, nat_lt, if◌then◌else◌}
+use Rattle.std.specs.List.{list_all}
+use Rattle.std.proofs.lemmas.Bool.{ltb-true}
 use Rattle.std.proofs.lemmas.Bool.Decides.{nat_tests}
 use Rattle.std.proofs.lemmas.Option.{slice_get_within}
 use Rattle.rup_base.specs.declared.arg.Arg.{Arg}
 use Rattle.rup_base.specs.declared.arg.Arg.TheVariants as arg
-use Rattle.rv_memory.specs.Ranges.{Bytes, Stands}
+use Rattle.rv_memory.specs.Ranges.{Bytes}
 use Rattle.side_certs.specs.LinearForm.{LinearForm, value_at}
-use Rattle.side_certs.specs.Closes.{Holds}
 use Rattle.side_certs.proofs.laws.Coefficients.{Below}
 use Rattle.side_certs.proofs.laws.Values.{value_same}
 use Rattle.model_syntax.specs.Environment.{Env, value_of, put}
 use Rattle.model_syntax.specs.Names.{Name, same}
-use Rattle.model_syntax.proofs.laws.Bindings.{same_is, same_self, value_here, value_else}
+use Rattle.model_syntax.proofs.laws.Bindings.{same_is, value_here, value_else}
 use Rattle.sym_heap.specs.declared.parts.Held.{Held}
 use Rattle.sym_heap.specs.declared.parts.Clause.{Clause}
 use Rattle.sym_heap.specs.Context.{Context, scalar, own, has, is_free, leaves_free, top_of, with_scalar, back_to}
 use Rattle.sym_heap.specs.Fits.{Call, Locals, Known, IsConsistent, ScalarFits, ClauseFits, FitsBy, ArgsHeld, Agree}
 use Rattle.sym_heap.specs.Settle.{IsKnown, FitsRest, LocalsKept, none, with_tops, or_nothing}
-use Rattle.sym_heap.proofs.laws.Lookups.{PlaceOf, scalar_stands, clause_stands, scalar_bound, name_of_scalar, names_differ, differ_back}
+use Rattle.sym_heap.proofs.laws.Lookups.{scalar_stands, clause_stands, scalar_bound, name_of_scalar, differ_back}
 use Rattle.sym_heap.proofs.Named.{PutAt, put_at, put_once}
 
 -- Forms and numbers.
@@ -178,7 +177,7 @@ moved_locals call v c env mem l before after free set fits = fits_locals call v 
 
 -- More symbols.
 
-taken_length : (xs ys : List ℕ) → take (length xs) ys ≡ xs → length xs ≤ length ys
+pub taken_length : (xs ys : List ℕ) → take (length xs) ys ≡ xs → length xs ≤ length ys
 taken_length [] ys is = omega arith
 taken_length (x ∷ xs) [] is = absurd (let bad : [] ≡ x ∷ xs = is in cc)
 taken_length (x ∷ xs) (y ∷ ys) is =
@@ -237,23 +236,23 @@ wider_rest spared call v w c tops env mem locals more agree below fits = record 
       agree s (omega (arith, less, count, few)) ∙ fits.entries s n at);
   holds = (λ i f at. subst (λ (z : ℤ). pos 0 ≤ℤ z) (sym (known_same (length c.tops) f v w (known.facts_known i f at) agree)) (fits.holds.0 i f at), below);
   scalars = λ x h at free. (let f = fits.scalars x h at free in let p = scalar_stands c x h at in record {
-      number = f.number;
-      value = f.value;
-      kind = f.kind;
-      form = known_same (length c.tops) h.form v w (known.scalars_known p.place h p.at) agree ∙ f.form;
-      local = f.local;
-    });
+    number = f.number;
+    value = f.value;
+    kind = f.kind;
+    form = known_same (length c.tops) h.form v w (known.scalars_known p.place h p.at) agree ∙ f.form;
+    local = f.local;
+  });
   clauses = λ a k at. (let f = fits.clauses a k at in let p = clause_stands c a k at in record {
-      array = f.array;
-      form = known_same (length c.tops) k.length v w (known.lengths_known p.place k p.at) agree ∙ f.form;
-      length_local = f.length_local;
-      parameter = f.parameter;
-      pointer = f.pointer;
-      stands = f.stands;
-      few = f.few;
-      aligned = f.aligned;
-      ends = f.ends;
-    });
+    array = f.array;
+    form = known_same (length c.tops) k.length v w (known.lengths_known p.place k p.at) agree ∙ f.form;
+    length_local = f.length_local;
+    parameter = f.parameter;
+    pointer = f.pointer;
+    stands = f.stands;
+    few = f.few;
+    aligned = f.aligned;
+    ends = f.ends;
+  });
   ranges = fits.ranges;
 } where
   known : IsKnown c

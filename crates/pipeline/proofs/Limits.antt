@@ -1,8 +1,9 @@
 -- The image around the code of a model is within the limits of its layout.
-use Rattle.std.proofs.Common.{◌≡◌, refl, sym, ◌∙◌, ap, subst, arith, ℕ, ◌+◌, ◌*◌, ◌%◌, ◌≤◌, ◌^◌, Bool, true, false, ◌&&◌, List, [], ◌∷◌, length, map, Some, None}
+use Rattle.std.proofs.Common.{◌≡◌, refl, sym, ◌∙◌, ap, subst, arith, ℕ, ◌+◌, ◌*◌, ◌%◌, ◌≤◌, ◌^◌, Bool, true, false, ◌&&◌, List, [], ◌∷◌, ◌++◌, length, map, Option, Some, None}
 use Rattle.std.specs.Prelude.{sum_by}
 use Rattle.std.specs.Int.{next_multiple_of}
-use Rattle.std.specs.List.{AllByRecursion}
+use Rattle.std.specs.List.{AllByRecursion, flat_map}
+use Rattle.rup_base.specs.declared.arg.Kind.{Kind}
 use Rattle.std.proofs.lemmas.Bool.{leb-true}
 use Rattle.std.proofs.lemmas.List.Sums.{sum_by-cons}
 use Rattle.rup_base.specs.Gather.{all_true}
@@ -21,7 +22,8 @@ use Rattle.model_syntax.specs.Types as types
 use Rattle.model_syntax.specs.Types.{kind_of}
 use Rattle.sym_heap.specs.Start as start
 use Rattle.image_layout.specs.declared.image.Image.{Image}
-use Rattle.image_layout.specs.Spelling.{registers_of, symbols_of, symbol_count, lists, header_length, code_offset, IsParameter, IsRequirement, IsWithinLimits}
+use Rattle.image_layout.specs.Spelling as layout
+use Rattle.image_layout.specs.Spelling.{parameter, symbol, bound_term, registers_of, symbols_of, symbol_count, lists, header_length, code_offset, IsParameter, IsRequirement, IsWithinLimits}
 use Rattle.image_layout.proofs.laws.Length.{lists_small}
 use Rattle.bed_syntax.specs.declared.weights.Weights.{Weights}
 use Rattle.model_command.specs.declared.command.ModelCommand.{ModelCommand}
@@ -134,10 +136,11 @@ lists_short w m c stack code tables well formed measured small limited =
     lists_small (image_around m c.bound 0 (bytes_of (0 ∷ [])) [])
     (within w m c 0 (0 ∷ []) [] well formed measured small limited (omega arith) (omega arith) (omega arith) refl (omega arith))
 
--- so is every image with the model's lists
-pub short_lists : (w : Weights) (m : Model) (c : ModelCommand) (i : Image) → types.Well m → model_formed m ≡ true → IsMeasured w m c → IsSmall c
-    → i.params ≡ map kind_of m.params → i.requires_ ≡ (start.start m).facts → i.rets ≡ map (result_place m.params) m.rets → i.bound ≡ c.bound
-    → AllByRecursion IsLimited i.requires_ → length (lists i) ≤ 450000
-short_lists w m c i well formed measured small params requirements rets bound limited =
+-- so are the model's lists by themselves
+pub short_lists : (w : Weights) (m : Model) (c : ModelCommand) (ks : List Kind) (fs : List LinearForm) (rs : List (Option ℕ)) (ts : List Term)
+    → types.Well m → model_formed m ≡ true → IsMeasured w m c → IsSmall c
+    → ks ≡ map kind_of m.params → fs ≡ (start.start m).facts → rs ≡ map (result_place m.params) m.rets → ts ≡ c.bound → AllByRecursion IsLimited fs
+    → length (flat_map parameter ks ++ (flat_map layout.requirement fs ++ (flat_map symbol rs ++ flat_map bound_term ts))) ≤ 450000
+short_lists w m c ks fs rs ts well formed measured small params requirements rets bound limited =
     let facts = subst (λ (fs : List LinearForm). AllByRecursion IsLimited fs) requirements limited in
     rw (params, requirements, rets, bound) (lists_short w m c 0 [] [] well formed measured small facts)

@@ -1,0 +1,4 @@
+//! The rules: what a node gives after its kids.
+pub mod lit;
+pub mod op;
+pub mod var;

@@ -1,6 +1,7 @@
 -- The words that rules are made of. A rule says what it gives in a context, and the context after; or it has a first fault: a
 -- node and a condition, or a node and the place of a certificate that does not close its goal.
-use Rattle.std.specs.Prelude.{ℕ, ◌+◌, ℤ, pos, nat_eq, nat_le, Bool, true, false, ◌&&◌, List, [], ◌∷◌, length, sum, map, Option, Some, None, Result, Ok, Err, if◌then◌else◌}
+use Rattle.std.specs.Prelude.{ℕ, ◌+◌, ℤ, pos, nat_abs, nat_eq, Bool, true, false, ◌&&◌, List, [], ◌∷◌, length, sum, map, Option, Some, None, option_and_then, Result, Ok, Err, if◌then◌else◌}
+use Rattle.std.specs.Int.Signed.{le_z}
 use Rattle.rup_base.specs.Answers.{and_then_with}
 use Rattle.rup_base.specs.declared.refusal.Refusal.{Refusal}
 use Rattle.rup_base.specs.declared.refusal.Refusal.TheVariants.{NoInstance, BadCertificate}
@@ -67,10 +68,13 @@ abbrev pub cert : ℕ → List Cert → LinearForm → Rule (Unit {0})
 cert at certs goal c = answered (certified at (closed c goal certs)) c
 
 -- the same of a form that the rule makes
+abbrev pub shown_there : ℕ → List Cert → Option LinearForm → Rule (Unit {0})
+shown_there at certs o = do
+  goal ← found o at 3
+  cert at certs goal
+
 abbrev pub shown : ℕ → List Cert → LinearForm → Rule (Unit {0})
-shown at certs goal = do
-  g ← made at goal
-  cert at certs g
+shown at certs goal = shown_there at certs (within goal)
 
 -- a further symbol with this top
 abbrev pub fresh : ℕ → ℕ → Rule LinearForm
@@ -110,15 +114,14 @@ fresh_result at top code = do
 
 -- the number that a form is
 abbrev pub number_of : LinearForm → Option ℤ
-number_of f = elim f.terms [ [] ↦ Some f.constant | t ∷ ts ↦ None ]
+number_of f = if nat_eq (length f.terms) 0 then Some f.constant else None
+
+abbrev pub in_range : ℕ → ℕ → ℤ → Option ℕ
+in_range low high k = if le_z (pos low) k && le_z k (pos high) then Some (nat_abs k) else None
 
 -- the number that a form is, from a least to a greatest one
-abbrev pub natural : ℕ → ℕ → Option ℤ → Option ℕ
-natural low high (Some (pos n)) = if nat_le low n && nat_le n high then Some n else None
-natural low high k = None
-
 abbrev pub number_in : ℕ → ℕ → LinearForm → Option ℕ
-number_in low high f = natural low high (number_of f)
+number_in low high f = option_and_then (in_range low high) (number_of f)
 
 -- What a node's derivation says of an expression: how many nodes it has, and from the number of the first, the expression's
 -- code and form, or the first fault.

@@ -3,9 +3,11 @@
 #![tactic(auto)]
 
 mod instance;
+pub mod laws;
 mod output;
 mod rules;
 mod words;
 
 pub use instance::expr_instance;
+pub use laws::instances_are_sound;
 pub use output::ExprOut;

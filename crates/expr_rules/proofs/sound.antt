@@ -1,0 +1,3 @@
+pub mod Lit
+pub mod Op
+pub mod Var

@@ -1,6 +1,7 @@
 -- Values of sums, and of forms that are numbers.
-use Rattle.std.proofs.Common.{◌≡◌, refl, sym, ◌∙◌, ap, arith, ℕ, ◌≤◌, Bool, true, false, ◌&&◌, nat_abs, List, [], ◌∷◌, Option, Some, None, ℤ, pos, negsuc, neg_ℤ, ◌≤ℤ◌, ◌+ℤ◌, ◌*ℤ◌, if◌then◌else◌}
+use Rattle.std.proofs.Common.{◌≡◌, refl, sym, ◌∙◌, ap, arith, ℕ, ◌≤◌, Bool, true, false, ◌&&◌, nat_abs, nat_eq, List, [], ◌∷◌, length, Option, Some, None, ℤ, pos, negsuc, neg_ℤ, ◌≤ℤ◌, ◌+ℤ◌, ◌*ℤ◌, if◌then◌else◌}
 use Rattle.std.specs.Int.Signed.{le_z}
+use Rattle.std.proofs.lemmas.Bool.Decides.{nat_tests}
 use Rattle.std.proofs.lemmas.Int.{ints}
 use Rattle.side_certs.specs.LinearForm.{LinearForm, constant, plus, times, minus, value_at}
 use Rattle.side_certs.proofs.laws.Values.{value_plus, value_times, value_constant}
@@ -37,7 +38,9 @@ number_value f k is v = by f.terms refl where
       let here : Some f.constant ≡ Some k = rw e at is in
       let one : f.constant ≡ k = cc in
       rw e (omega (arith, ints, one))
-  by (t ∷ ts) e = absurd (let bad : None ≡ Some k = rw e at is in cc)
+  by (t ∷ ts) e =
+      let some : nat_eq (length (t ∷ ts)) 0 ≡ false = grind (arith, nat_tests) in
+      absurd (let bad : None ≡ Some k = rw (e, some) at is in cc)
 
 -- and one from the least to the greatest
 pub record NumberIn (low high n : ℕ) (f : LinearForm) : Type 0 where

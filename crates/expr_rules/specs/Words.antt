@@ -152,9 +152,13 @@ abbrev pub one_kid : List Judged → ℕ → Expr → Rule ExprOut
 one_kid (k ∷ []) at x c = k.row (at + 1) x c
 one_kid kids at x c = Err (NoInstance at 1)
 
-abbrev pub two_kids : List Judged → ℕ → Expr → Expr → Rule (ExprOut × ExprOut)
-two_kids (k ∷ l ∷ []) at x y = do
-  p ← k.row (at + 1) x
-  q ← l.row (at + 1 + k.size) y
+-- two of them, of which the first has the number `first`
+abbrev pub pair : Judged → Judged → ℕ → Expr → Expr → Rule (ExprOut × ExprOut)
+pair k l first x y = do
+  p ← k.row first x
+  q ← l.row (first + k.size) y
   give (p, q)
+
+abbrev pub two_kids : List Judged → ℕ → Expr → Expr → Rule (ExprOut × ExprOut)
+two_kids (k ∷ l ∷ []) at x y = pair k l (at + 1) x y
 two_kids kids at x y = refuse at 1

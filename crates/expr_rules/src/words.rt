@@ -1,5 +1,5 @@
 //! The words that rules are made of.
-ghost use Rattle.std.specs.Prelude.{◌≡◌, IfOk};
+ghost use Rattle.std.specs.Prelude.{◌≡◌, ◌++◌, IfOk};
 ghost use Rattle.rup_base.specs.Answers.{Answers, AnswersWith};
 ghost use Rattle.rup_base.specs.declared.fail.Fail.TheVariants as fail;
 ghost use Rattle.rup_base.specs.declared.refusal.Refusal.TheVariants as refusal;
@@ -120,4 +120,54 @@ pub fn fresh_result(ctx: &mut Ctx, at: u32, top: u32, code: BExpr) -> Result<Exp
 {
     let symbol = fresh(ctx, at, top)?;
     Ok(plain(ctx.allocator(), code, symbol))
+}
+
+/// The next certificate of the node shows that the form is at least 0.
+pub fn shown(ctx: &Ctx, at: u32, certs: &[Cert], goal: Option<Form>) -> Result<(), Fail>
+    ensures { AnswersWith result ctx.now (spec.shown_there at certs.now goal ctx.now) }
+{
+    let goal = made(at, goal)?;
+    cert(ctx, at, certs, &goal)
+}
+
+/// The number that a form is, where it is one from `low` to `high`.
+pub fn number_in(low: u32, high: u32, form: &Form) -> Option<u32>
+    ensures { result ≡ spec.number_in low high form.now }
+{
+    match number_of(form) {
+        None => None,
+        Some(k) => in_range(low, high, k),
+    }
+}
+
+fn in_range(low: u32, high: u32, k: i64) -> Option<u32>
+    ensures { result ≡ spec.in_range low high k }
+{
+    if i64::from(low) <= k && k <= i64::from(high) {
+        Some(k.unsigned_abs() as u32)
+    } else {
+        None
+    }
+}
+
+/// The number that a form is.
+pub fn number_of(form: &Form) -> Option<i64>
+    ensures { result ≡ spec.number_of form.now }
+{
+    if form.terms() == 0 {
+        Some(form.constant_part())
+    } else {
+        None
+    }
+}
+
+/// The forms of both lists.
+pub fn joined(first: List<Form>, second: &[Form]) -> Result<List<Form>, NoMemory>
+    ensures { IfOk result (λ all. all ≡ first ++ second.now) }
+{
+    let mut all = first;
+    for form in second {
+        all.push(form.copy())?;
+    }
+    Ok(all)
 }

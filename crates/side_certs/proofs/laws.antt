@@ -1,3 +1,4 @@
+pub mod Closing
 pub mod Coefficients
 pub mod Combinations
 pub mod Known

@@ -1,6 +1,7 @@
 pub mod Elements
-pub mod Ending
 pub mod EndScopes
+pub mod Ending
+pub mod Extending
 pub mod Lookups
 pub mod Moves
 pub mod Moving

@@ -1,0 +1,11 @@
+pub mod Came
+pub mod Codes
+pub mod Flags
+pub mod Folded
+pub mod Fresh
+pub mod Kids
+pub mod Rows
+pub mod Sizes
+pub mod Sums
+pub mod Yields
+pub mod sound

@@ -1,0 +1,14 @@
+pub mod Add
+pub mod Both
+pub mod Byte
+pub mod Cmp
+pub mod Cut
+pub mod Either
+pub mod Len
+pub mod Lit
+pub mod Mask
+pub mod Not
+pub mod Op
+pub mod Sub
+pub mod Var
+pub mod Word

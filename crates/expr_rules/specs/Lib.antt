@@ -1,0 +1,5 @@
+pub mod Words
+pub mod Operations
+pub mod rules
+pub mod Row
+pub mod Sound

@@ -180,15 +180,15 @@ module _ (R : Fact) (ps : List Param) (scope : Scope) (before mid : Context) (ca
           agree (length mid.tops) (omega (arith, one)) ∙ is.1,
         );
         runs = λ call numbers env mem vars fits.
-          (let r : Reached R call before mid numbers env mem vars = came.runs call numbers env mem vars fits in
-          let w : ℕ → ℕ = given r.others (length mid.tops) (num env) in
-          let later : Agree (length mid.tops) r.others w = given_agrees r.others (length mid.tops) (num env) in
-          record {
-            others = w;
-            agree = agree_on (length before.tops) (length mid.tops) numbers r.others w (more_tops before mid came.extends) r.agree later;
-            fits = fits_top call r.others mid top (num env) env mem (local_at vars) (small r.others env mem vars r.is) r.fits;
-            is = (came.stays r.others w env mem vars later r.is, given_here r.others (length mid.tops) (num env));
-          });
+            (let r : Reached R call before mid numbers env mem vars = came.runs call numbers env mem vars fits in
+            let w : ℕ → ℕ = given r.others (length mid.tops) (num env) in
+            let later : Agree (length mid.tops) r.others w = given_agrees r.others (length mid.tops) (num env) in
+            record {
+              others = w;
+              agree = agree_on (length before.tops) (length mid.tops) numbers r.others w (more_tops before mid came.extends) r.agree later;
+              fits = fits_top call r.others mid top (num env) env mem (local_at vars) (small r.others env mem vars r.is) r.fits;
+              is = (came.stays r.others w env mem vars later r.is, given_here r.others (length mid.tops) (num env));
+            });
       }
 
   -- a fact that holds is added
@@ -199,13 +199,13 @@ module _ (R : Fact) (ps : List Param) (scope : Scope) (before mid : Context) (ca
     scoped = fact_scoped ps scope mid f came.scoped;
     stays = came.stays;
     runs = λ call numbers env mem vars fits.
-      (let r : Reached R call before mid numbers env mem vars = came.runs call numbers env mem vars fits in
-      record {
-        others = r.others;
-        agree = r.agree;
-        fits = fits_fact call r.others mid f env mem (local_at vars) known (holds r.others env mem vars r.is) r.fits;
-        is = r.is;
-      });
+        (let r : Reached R call before mid numbers env mem vars = came.runs call numbers env mem vars fits in
+        record {
+          others = r.others;
+          agree = r.agree;
+          fits = fits_fact call r.others mid f env mem (local_at vars) known (holds r.others env mem vars r.is) r.fits;
+          is = r.is;
+        });
   }
 
   -- the end: code and form
@@ -221,9 +221,9 @@ module _ (R : Fact) (ps : List Param) (scope : Scope) (before mid : Context) (ca
     no_known = kid.no_known;
     locals = kid.locals;
     runs = λ call numbers env mem vars fits.
-      (let r : Reached R call before mid numbers env mem vars = came.runs call numbers env mem vars fits in
-      let end_ : Right (sem env) t out r.others mem vars = right call r.others env mem vars r.fits r.is in
-      record { others = r.others; agree = r.agree; fits = r.fits; value = end_.value; small = end_.small; form = end_.form; yes = end_.yes; no = end_.no });
+        (let r : Reached R call before mid numbers env mem vars = came.runs call numbers env mem vars fits in
+        let end_ : Right (sem env) t out r.others mem vars = right call r.others env mem vars r.fits r.is in
+        record { others = r.others; agree = r.agree; fits = r.fits; value = end_.value; small = end_.small; form = end_.form; yes = end_.yes; no = end_.no });
   }
 
 -- what an expression gives is what a rule has of it
@@ -240,8 +240,8 @@ came_one ps scope sem t before after out d = record {
   scoped = d.scoped;
   stays = λ v w env mem vars agree r. right_more before after out (sem env) t v w mem vars (kid_of ps scope sem t before after out d) agree r;
   runs = λ call numbers env mem vars fits.
-    (let r : ExprRan call (sem env) t before out after numbers env mem vars = d.runs call numbers env mem vars fits in
-    record { others = r.others; agree = r.agree; fits = r.fits; is = record { value = r.value; small = r.small; form = r.form; yes = r.yes; no = r.no } });
+      (let r : ExprRan call (sem env) t before out after numbers env mem vars = d.runs call numbers env mem vars fits in
+      record { others = r.others; agree = r.agree; fits = r.fits; is = record { value = r.value; small = r.small; form = r.form; yes = r.yes; no = r.no } });
 }
 
 -- two facts
@@ -258,12 +258,12 @@ came_on R S ps scope before mid after one two =
       scoped = two.scoped;
       stays = λ v w env mem vars agree is. (one.stays v w env mem vars (λ s below. agree s (omega (arith, less, below))) is.0, two.stays v w env mem vars agree is.1);
       runs = λ call numbers env mem vars fits.
-        (let r : Reached R call before mid numbers env mem vars = one.runs call numbers env mem vars fits in
-        let s : Reached S call mid after r.others env mem vars = two.runs call r.others env mem vars r.fits in
-        record {
-          others = s.others;
-          agree = agree_on (length before.tops) (length mid.tops) numbers r.others s.others (more_tops before mid one.extends) r.agree s.agree;
-          fits = s.fits;
-          is = (one.stays r.others s.others env mem vars s.agree r.is, s.is);
-        });
+          (let r : Reached R call before mid numbers env mem vars = one.runs call numbers env mem vars fits in
+          let s : Reached S call mid after r.others env mem vars = two.runs call r.others env mem vars r.fits in
+          record {
+            others = s.others;
+            agree = agree_on (length before.tops) (length mid.tops) numbers r.others s.others (more_tops before mid one.extends) r.agree s.agree;
+            fits = s.fits;
+            is = (one.stays r.others s.others env mem vars s.agree r.is, s.is);
+          });
     }

@@ -50,5 +50,5 @@ fresh_done R ps scope before mid came sem t at top code less locals is =
     sem t (plain code (symbol (length mid.tops)))
     (plain_kid before (with_top top mid) code (symbol (length mid.tops)) (next_known mid.tops top) locals)
     (λ call v env mem vars fits r.
-      let small : sem env ≤ top = (is v env mem vars r.0).1 in
-      plain_right (sem env) t code (symbol (length mid.tops)) v mem vars (is v env mem vars r.0).0 (omega (arith, small, less)) (value_symbol v (length mid.tops) ∙ ap pos r.1)))
+    let small : sem env ≤ top = (is v env mem vars r.0).1 in
+    plain_right (sem env) t code (symbol (length mid.tops)) v mem vars (is v env mem vars r.0).0 (omega (arith, small, less)) (value_symbol v (length mid.tops) ∙ ap pos r.1)))

@@ -22,7 +22,6 @@ value_sum v k (p ∷ ps) =
     let rest = value_sum v k ps in
     omega (arith, ints, whole, first, rest)
 
-
 pub known_minus : (n : ℕ) (f g : LinearForm) → Known n f → Known n g → Known n (minus f g)
 known_minus n f g one two = known_plus n f (times (negsuc 0) g) one (known_times n (negsuc 0) g two)
 

@@ -36,11 +36,7 @@ pub fn need(holds: bool, at: u32, cond: u32) -> Result<(), Fail>
 pub fn counted(step: &Step, args: usize, certs: usize, at: u32) -> Result<(), Fail>
     ensures { Answers result (spec.asked (spec.has_counts step.now args certs) at 2) }
 {
-    need(
-        step.args.len() == args && step.certs.len() == certs,
-        at,
-        2,
-    )
+    need(step.args.len() == args && step.certs.len() == certs, at, 2)
 }
 
 /// A form that is within the limits.

@@ -34,13 +34,13 @@ sound ps scope f g before pq mid k certs at =
     (came_done (And (Of f Word pq.0) (Of g Word pq.1)) ps scope before mid k.came sem Word (plain code form)
     (plain_kid before mid code form (known_plus (length mid.tops) pq.0.form pq.1.form k.one.known k.two.known) (λ xs has. locals_bin xs bop.Add pq.0.code pq.1.code (k.one.locals xs has) (k.two.locals xs has)))
     (λ call v env mem vars fits r.
-      let shown : pos 0 ≤ℤ value_at v goal = closes v fits.holds in
-      let value_is = value_sum v (pos most) ((negsuc 0, pq.0.form) ∷ (negsuc 0, pq.1.form) ∷ []) in
-      let one = r.0.form in
-      let two = r.1.form in
-      let small : f env + g env ≤ 4294967295 = omega (arith, ints, shown, value_is, one, two) in
-      let whole = value_plus v pq.0.form pq.1.form in
-      plain_right (sem env) Word code form v mem vars (value_bin mem vars bop.Add pq.0.code pq.1.code (f env) (g env) r.0.value r.1.value) (omega (arith, small)) (omega (arith, ints, whole, one, two, small)))))
+    let shown : pos 0 ≤ℤ value_at v goal = closes v fits.holds in
+    let value_is = value_sum v (pos most) ((negsuc 0, pq.0.form) ∷ (negsuc 0, pq.1.form) ∷ []) in
+    let one = r.0.form in
+    let two = r.1.form in
+    let small : f env + g env ≤ 4294967295 = omega (arith, ints, shown, value_is, one, two) in
+    let whole = value_plus v pq.0.form pq.1.form in
+    plain_right (sem env) Word code form v mem vars (value_bin mem vars bop.Add pq.0.code pq.1.code (f env) (g env) r.0.value r.1.value) (omega (arith, small)) (omega (arith, ints, whole, one, two, small)))))
   where
     sem : Env → ℕ
     sem env = apply op.Add (f env) (g env)

@@ -24,12 +24,12 @@ sound ps scope f before p mid d certs at =
     (λ closes. came_done (Of f Word p) ps scope before mid (came_one ps scope f Word before mid p d) sem Byte (plain p.code p.form)
     (plain_kid before mid p.code p.form d.known d.locals)
     (λ call v env mem vars fits r.
-      let shown : pos 0 ≤ℤ value_at v goal = closes v fits.holds in
-      let value_is = value_sum v (pos 255) ((negsuc 0, p.form) ∷ []) in
-      let one = r.form in
-      let small : f env ≤ 255 = omega (arith, ints, shown, value_is, one) in
-      let same : f env % 256 ≡ f env = omega (arith, small) in
-      plain_right (sem env) Byte p.code p.form v mem vars (r.value ∙ ap Some (sym same)) (omega (arith, small, same)) (r.form ∙ ap pos (sym same))))
+    let shown : pos 0 ≤ℤ value_at v goal = closes v fits.holds in
+    let value_is = value_sum v (pos 255) ((negsuc 0, p.form) ∷ []) in
+    let one = r.form in
+    let small : f env ≤ 255 = omega (arith, ints, shown, value_is, one) in
+    let same : f env % 256 ≡ f env = omega (arith, small) in
+    plain_right (sem env) Byte p.code p.form v mem vars (r.value ∙ ap Some (sym same)) (omega (arith, small, same)) (r.form ∙ ap pos (sym same))))
   where
     sem : Env → ℕ
     sem env = f env % 256

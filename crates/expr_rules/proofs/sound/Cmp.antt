@@ -57,8 +57,8 @@ module _ (n : ℕ) (F G : LinearForm) (one : Known n F) (two : Known n G) where
     yes_known = each_more (Known n) (minus F G) (minus G F ∷ []) (known_minus n F G one two) (each_more (Known n) (minus G F) [] (known_minus n G F two one) (each_none (Known n)));
     no_known = each_none (Known n);
     yes = λ v m k f g is.
-      (let same : m ≡ k = grind (arith, nat_tests, is) in
-      each_more (Holds v) (minus F G) (minus G F ∷ []) (not_less v m k f g (omega (arith, same))) (each_more (Holds v) (minus G F) [] (not_more v m k f g (omega (arith, same))) (each_none (Holds v))));
+        (let same : m ≡ k = grind (arith, nat_tests, is) in
+        each_more (Holds v) (minus F G) (minus G F ∷ []) (not_less v m k f g (omega (arith, same))) (each_more (Holds v) (minus G F) [] (not_more v m k f g (omega (arith, same))) (each_none (Holds v))));
     no = λ v m k f g is. each_none (Holds v);
   }
 
@@ -67,9 +67,9 @@ module _ (n : ℕ) (F G : LinearForm) (one : Known n F) (two : Known n G) where
     yes_known = each_more (Known n) gap [] gap_known (each_none (Known n));
     no_known = each_more (Known n) (minus F G) [] (known_minus n F G one two) (each_none (Known n));
     yes = λ v m k f g is.
-      (let less : m < k = grind (arith, nat_tests, is) in
-      let whole = value_sum v (negsuc 0) ((pos 1, G) ∷ (negsuc 0, F) ∷ []) in
-      each_more (Holds v) gap [] (omega (arith, ints, whole, f, g, less)) (each_none (Holds v)));
+        (let less : m < k = grind (arith, nat_tests, is) in
+        let whole = value_sum v (negsuc 0) ((pos 1, G) ∷ (negsuc 0, F) ∷ []) in
+        each_more (Holds v) gap [] (omega (arith, ints, whole, f, g, less)) (each_none (Holds v)));
     no = λ v m k f g is. (let less : k ≤ m = grind (arith, nat_tests, is) in each_more (Holds v) (minus F G) [] (not_less v m k f g less) (each_none (Holds v)));
   }
 

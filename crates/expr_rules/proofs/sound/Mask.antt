@@ -51,9 +51,9 @@ sound ps scope f g before pq mid k at =
         (came_done R2 ps scope before after_fact with_the_fact sem Word (plain code s)
         (plain_kid before after_fact code s (next_known mid.tops n) (λ xs has. locals_bin xs bop.And pq.0.code pq.1.code (k.one.locals xs has) (k.two.locals xs has)))
         (λ call v env mem vars fits r.
-          let less = and_le_l (f env) (g env) in
-          let small = r.0.0.small in
-          plain_right (sem env) Word code s v mem vars (value_bin mem vars bop.And pq.0.code pq.1.code (f env) (g env) r.0.0.value r.0.1.value) (omega (arith, less, small)) (value_symbol v (length mid.tops) ∙ ap pos r.1))))
+        let less = and_le_l (f env) (g env) in
+        let small = r.0.0.small in
+        plain_right (sem env) Word code s v mem vars (value_bin mem vars bop.And pq.0.code pq.1.code (f env) (g env) r.0.0.value r.0.1.value) (omega (arith, less, small)) (value_symbol v (length mid.tops) ∙ ap pos r.1))))
       where
         R2 : Fact
         R2 = WithNumber R ps scope before mid k.came sem
@@ -74,8 +74,8 @@ sound ps scope f g before pq mid k at =
             came_fact R2 ps scope before (with_top n mid) one (minus pq.0.form s)
             (known_minus (length (with_top n mid).tops) pq.0.form s (known_more (length mid.tops) (length (with_top n mid).tops) pq.0.form (more_tops mid (with_top n mid) (extends_top mid n)) k.one.known) (next_known mid.tops n))
             (λ v env mem vars r.
-              let less : bit_and (f env) (g env) ≤ f env = and_le_l (f env) (g env) in
-              let whole = value_minus v pq.0.form s in
-              let first = r.0.0.form in
-              let second : value_at v s ≡ pos (bit_and (f env) (g env)) = value_symbol v (length mid.tops) ∙ ap pos r.1 in
-              omega (arith, ints, less, whole, first, second))
+            let less : bit_and (f env) (g env) ≤ f env = and_le_l (f env) (g env) in
+            let whole = value_minus v pq.0.form s in
+            let first = r.0.0.form in
+            let second : value_at v s ≡ pos (bit_and (f env) (g env)) = value_symbol v (length mid.tops) ∙ ap pos r.1 in
+            omega (arith, ints, less, whole, first, second))

@@ -45,18 +45,18 @@ sound ps scope f before p mid d at =
       locals = λ xs has. locals_bin xs bop.Eq p.code (b.Lit 0) (d.locals xs has) (locals_lit xs 0);
     })
     (λ call v env mem vars fits r.
-      let small : f env ≤ 1 = r.small in
-      let o : Other (f env) = other (f env) small in
-      let value_is = value_sum v (pos 1) ((negsuc 0, p.form) ∷ []) in
-      let one = r.form in
-      let sum = o.sum in
-      record {
-        value = value_bin mem vars bop.Eq p.code (b.Lit 0) (f env) 0 r.value (value_lit mem vars 0) ∙ ap Some o.code;
-        small = omega (arith, sum);
-        form = omega (arith, ints, value_is, one, sum, small);
-        yes = λ e. r.no (o.yes e);
-        no = λ e. r.yes (o.no e);
-      }))
+    let small : f env ≤ 1 = r.small in
+    let o : Other (f env) = other (f env) small in
+    let value_is = value_sum v (pos 1) ((negsuc 0, p.form) ∷ []) in
+    let one = r.form in
+    let sum = o.sum in
+    record {
+      value = value_bin mem vars bop.Eq p.code (b.Lit 0) (f env) 0 r.value (value_lit mem vars 0) ∙ ap Some o.code;
+      small = omega (arith, sum);
+      form = omega (arith, ints, value_is, one, sum, small);
+      yes = λ e. r.no (o.yes e);
+      no = λ e. r.yes (o.no e);
+    }))
   where
     sem : Env → ℕ
     sem env = flag (not (is_true (f env)))

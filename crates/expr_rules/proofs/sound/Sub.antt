@@ -33,13 +33,13 @@ sound ps scope f g before pq mid k certs at =
     (came_done (And (Of f Word pq.0) (Of g Word pq.1)) ps scope before mid k.came sem Word (plain code form)
     (plain_kid before mid code form (known_minus (length mid.tops) pq.0.form pq.1.form k.one.known k.two.known) (λ xs has. locals_bin xs bop.Sub pq.0.code pq.1.code (k.one.locals xs has) (k.two.locals xs has)))
     (λ call v env mem vars fits r.
-      let shown : pos 0 ≤ℤ value_at v form = closes v fits.holds in
-      let one = r.0.form in
-      let two = r.1.form in
-      let whole = value_minus v pq.0.form pq.1.form in
-      let less : g env ≤ f env = omega (arith, ints, shown, whole, one, two) in
-      let small = r.0.small in
-      plain_right (sem env) Word code form v mem vars (value_bin mem vars bop.Sub pq.0.code pq.1.code (f env) (g env) r.0.value r.1.value) (omega (arith, small, less)) (omega (arith, ints, whole, one, two, small, less)))))
+    let shown : pos 0 ≤ℤ value_at v form = closes v fits.holds in
+    let one = r.0.form in
+    let two = r.1.form in
+    let whole = value_minus v pq.0.form pq.1.form in
+    let less : g env ≤ f env = omega (arith, ints, shown, whole, one, two) in
+    let small = r.0.small in
+    plain_right (sem env) Word code form v mem vars (value_bin mem vars bop.Sub pq.0.code pq.1.code (f env) (g env) r.0.value r.1.value) (omega (arith, small, less)) (omega (arith, ints, whole, one, two, small, less)))))
   where
     sem : Env → ℕ
     sem env = apply op.Sub (f env) (g env)

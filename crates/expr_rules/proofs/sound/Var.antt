@@ -38,9 +38,9 @@ sound ps scope c came at x t typed = by (scalar c x) refl where
       (came_done Nothing ps scope c c came (λ env. number (value_of env x)) t (plain (b.Var h.local) h.form)
       (plain_kid c c (b.Var h.local) h.form (came.consistent.scalars_known s.place h s.at) (λ xs has. locals_var xs h.local (has.scalars s.place h s.at)))
       (λ call v env mem vars fits r.
-        let here : ScalarFits v h (value_of env x) (local_at vars) = fits.scalars x h is in
-        let value_is : number (value_of env x) ≡ here.number = ap number here.value in
-        plain_right (number (value_of env x)) t (b.Var h.local) h.form v mem vars
-        (value_var mem vars h.local ∙ here.local ∙ ap Some (sym value_is))
-        (subst (λ (k : Scalar). number (value_of env x) ≤ top_of k) kind (subst (λ (n : ℕ). n ≤ top_of h.kind) (sym value_is) here.kind))
-        (here.form ∙ ap pos (sym value_is))))
+      let here : ScalarFits v h (value_of env x) (local_at vars) = fits.scalars x h is in
+      let value_is : number (value_of env x) ≡ here.number = ap number here.value in
+      plain_right (number (value_of env x)) t (b.Var h.local) h.form v mem vars
+      (value_var mem vars h.local ∙ here.local ∙ ap Some (sym value_is))
+      (subst (λ (k : Scalar). number (value_of env x) ≤ top_of k) kind (subst (λ (n : ℕ). n ≤ top_of h.kind) (sym value_is) here.kind))
+      (here.form ∙ ap pos (sym value_is))))

@@ -24,6 +24,6 @@ sound ps scope f t before p mid d =
     came_done (Of f t p) ps scope before mid (came_one ps scope f t before mid p d) f Word (plain p.code p.form)
     (plain_kid before mid p.code p.form d.known d.locals)
     (λ call v env mem vars fits r.
-      let small = r.small in
-      let most = top_small t in
-      plain_right (f env) Word p.code p.form v mem vars r.value (omega (arith, small, most)) r.form)
+    let small = r.small in
+    let most = top_small t in
+    plain_right (f env) Word p.code p.form v mem vars r.value (omega (arith, small, most)) r.form)

@@ -40,13 +40,7 @@ pub fn after(ctx: &mut Ctx, at: u32, cmp: Cmp, p: ExprOut, q: ExprOut) -> Result
 }
 
 /// What holds where the flag is true, and where it is false.
-fn facts(
-    ctx: &Ctx,
-    at: u32,
-    cmp: Cmp,
-    f: &Form,
-    g: &Form,
-) -> Result<(List<Form>, List<Form>), Fail>
+fn facts(ctx: &Ctx, at: u32, cmp: Cmp, f: &Form, g: &Form) -> Result<(List<Form>, List<Form>), Fail>
     ensures { AnswersWith result ctx.now (spec.facts at cmp f.now g.now ctx.now) }
 {
     match cmp {
@@ -83,5 +77,8 @@ fn less(ctx: &Ctx, at: u32, f: &Form, g: &Form) -> Result<(List<Form>, List<Form
 fn gap(f: &Form, g: &Form) -> Option<Form>
     ensures { result ≡ within (sum_of (negsuc 0) ((pos 1, g.now) ∷ (negsuc 0, f.now) ∷ [])) }
 {
-    Form::sum(-1, &[Part { times: 1, form: g }, Part { times: -1, form: f }])
+    Form::sum(
+        -1,
+        &[Part { times: 1, form: g }, Part { times: -1, form: f }],
+    )
 }

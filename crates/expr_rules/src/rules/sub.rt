@@ -9,13 +9,7 @@ use rup_base::Fail;
 use side_certs::Cert;
 use sym_heap::Ctx;
 
-pub fn after(
-    ctx: &Ctx,
-    at: u32,
-    certs: &[Cert],
-    p: ExprOut,
-    q: ExprOut,
-) -> Result<ExprOut, Fail>
+pub fn after(ctx: &Ctx, at: u32, certs: &[Cert], p: ExprOut, q: ExprOut) -> Result<ExprOut, Fail>
     ensures { AnswersWith result ctx.now (spec.after certs.now at p q ctx.now) }
 {
     shown(ctx, at, certs, p.form.sub(&q.form))?;

@@ -12,11 +12,7 @@ pub fn after(ctx: &Ctx, at: u32, x: &Name) -> Result<ExprOut, Fail>
     ensures { AnswersWith result ctx.now (spec.after at x.now ctx.now) }
 {
     match ctx.scalar(x) {
-        Some(held) => Ok(plain(
-            ctx.allocator(),
-            BExpr::Var(held.local),
-            held.form.copy(),
-        )),
+        Some(held) => Ok(plain(ctx.allocator(), BExpr::Var(held.local), held.form.copy())),
         None => Err(no_instance(at, 1)),
     }
 }

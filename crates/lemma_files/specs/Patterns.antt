@@ -3,7 +3,7 @@ use Rattle.std.specs.Prelude.{ℕ, nat_eq, List, [], ◌∷◌, Ok, Option, Some
 use Rattle.rup_base.specs.Name.{name_of}
 use Rattle.rup_base.specs.declared.arg.Place.{Place}
 use Rattle.model_syntax.specs.declared.expr.Scalar.{Scalar}
-use Rattle.model_reader.specs.Numbers as numbers
+use Rattle.rup_base.specs.Number as numbers
 use Rattle.model_reader.specs.Parts.{Answer, Name, ◌>>=◌, known}
 use Rattle.model_reader.specs.Expressions as model
 use Rattle.lemma_files.specs.declared.words.Word.{Word}

@@ -9,9 +9,9 @@ use crate::parts::{behind, behind_two, end, form_at, headed, kids_of, place_of, 
 use crate::patterns::read_pattern;
 use crate::terms::{Lemma, Shape};
 use crate::words::is;
-use model_reader::{Misread, known, missing, number_of, read_fact, read_name, wrong};
+use model_reader::{Misread, known, missing, read_fact, read_name, wrong};
 use model_syntax::Le;
-use rup_base::{List, Name, Place};
+use rup_base::{List, Name, Place, number_of};
 use std::alloc::Global;
 use sx_text::Sx;
 

@@ -10,9 +10,9 @@ ghost use Rattle.lemma_files.specs.Reading.{part};
 use crate::parts::{end, form_at, headed, kids_of};
 use crate::terms::Pattern;
 use crate::words::{Word, scalar_of, word_of};
-use model_reader::{Misread, known, missing, number_of, read_name, read_number, wrong};
+use model_reader::{Misread, known, missing, read_name, read_number, wrong};
 use model_syntax::Scalar;
-use rup_base::{Box, List, Name, NoMemory, Place};
+use rup_base::{Box, List, Name, NoMemory, Place, number_of};
 use std::alloc::Global;
 use sx_text::Sx;
 

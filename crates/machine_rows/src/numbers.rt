@@ -31,8 +31,14 @@ fn part_of(alloc: Global, word: &str) -> Result<Part, Fault> {
 
 /// The memory of two regions, of which the first ends where the second begins or before.
 fn memory(alloc: Global, low: Part, high: Part) -> Result<Memory, Fault> {
-    let Part { at: first, bytes: below } = low;
-    let Part { at: second, bytes: above } = high;
+    let Part {
+        at: first,
+        bytes: below,
+    } = low;
+    let Part {
+        at: second,
+        bytes: above,
+    } = high;
     if below.len() > MOST || above.len() > MOST {
         return Err(Fault::BadLine);
     }

@@ -6,7 +6,7 @@ use Rattle.rup_base.specs.Name.{is_name}
 use Rattle.rup_base.specs.declared.arg.Place.{Place}
 use Rattle.model_syntax.specs.declared.expr.Expr.TheVariants as v
 use Rattle.model_syntax.specs.declared.stmt.Lin.TheVariants as l
-use Rattle.model_reader.specs.Numbers as numbers
+use Rattle.rup_base.specs.Number as numbers
 use Rattle.model_reader.specs.Parts as parts
 use Rattle.model_reader.specs.Expressions.{atom_expr}
 use Rattle.model_reader.specs.Facts.{atom_side}

@@ -11,8 +11,8 @@ use Rattle.rup_base.specs.Name.{is_name, is_word, begins_name, continues_name}
 use Rattle.sx_text.specs.Bytes.{in_atom}
 use Rattle.sx_text.specs.Spelling.{is_atom}
 use Rattle.sx_text.proofs.laws.Atoms.{and_parts}
-use Rattle.model_reader.specs.Numbers.{number, numeral}
-use Rattle.model_reader.proofs.Numerals.{numeral_no_digit}
+use Rattle.rup_base.specs.Number.{number, numeral}
+use Rattle.rup_base.proofs.laws.Numerals.{numeral_no_digit}
 
 digits_all : (ds : List ℕ) → AllDigits 10 ds → list_all (λ d. is_digit d 10) ds ≡ true
 digits_all [] h = refl

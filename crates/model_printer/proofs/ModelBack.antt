@@ -15,7 +15,7 @@ use Rattle.model_syntax.specs.declared.program.Ret.{Ret}
 use Rattle.model_syntax.specs.declared.program.Ret.TheVariants as result
 use Rattle.model_syntax.specs.declared.program.Model.{Model}
 use Rattle.model_syntax.specs.Spelling.{stmt_spellable}
-use Rattle.model_reader.specs.Numbers as numbers
+use Rattle.rup_base.specs.Number as numbers
 use Rattle.model_reader.specs.Parts as parts
 use Rattle.model_reader.specs.Parts.{Answer, Reading, Name}
 use Rattle.model_reader.specs.Reading.{reading, atom_reading}

@@ -18,7 +18,7 @@ use Rattle.model_syntax.specs.declared.stmt.Lin.TheOpen as l
 use Rattle.model_syntax.specs.declared.stmt.Lin.TheVariants as m
 use Rattle.model_reader.specs.declared.words.ExprWord.{ExprWord}
 use Rattle.model_reader.specs.declared.words.ExprWord.TheVariants as word
-use Rattle.model_reader.specs.Numbers as numbers
+use Rattle.rup_base.specs.Number as numbers
 use Rattle.model_reader.specs.Words.{expr_word}
 use Rattle.model_reader.specs.Parts.{Reading, nth, each, some, wrong, known}
 use Rattle.model_reader.specs.Expressions.{table_scalar, entry, fits, one_of, two_of, length_of, get_of, tab_of, worded_expr, list_expr, atom_expr}

@@ -16,7 +16,7 @@ use Rattle.model_syntax.specs.declared.program.Len.TheVariants.{Fixed, Named}
 use Rattle.model_syntax.specs.declared.program.Ret.TheVariants as result
 use Rattle.model_reader.specs.declared.words.StmtWord.{StmtWord}
 use Rattle.model_reader.specs.declared.words.StmtWord.TheVariants as word
-use Rattle.model_reader.specs.Numbers as numbers
+use Rattle.rup_base.specs.Number as numbers
 use Rattle.model_reader.specs.Words.{scalar_of, array_of, stmt_word}
 use Rattle.model_reader.specs.Parts.{Reading, Name, nth, wrong, known}
 use Rattle.model_reader.specs.Statements.{stmt, let_of, put_of, move_of, carried, choice_of, if_of, for_of, range_of, map_of, fold_of, worded_stmt, list_stmt, block_of}

@@ -3,7 +3,6 @@ pub mod FineExprs
 pub mod FineStmts
 pub mod Gives
 pub mod Nth
-pub mod Numerals
 pub mod Read
 pub mod WordNumbers
 pub mod laws

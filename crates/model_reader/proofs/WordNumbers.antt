@@ -5,8 +5,8 @@ use Rattle.std.specs.Str.Parse.{digits_value_after}
 use Rattle.std.specs.List.{list_all}
 use Rattle.rup_base.specs.declared.arg.Place.{Place}
 use Rattle.model_syntax.specs.Kinds.{is_word}
-use Rattle.model_reader.specs.Numbers as numbers
-use Rattle.model_reader.specs.Numbers.{in_word, numeral, hexadecimal, after_zero, number}
+use Rattle.rup_base.specs.Number as numbers
+use Rattle.rup_base.specs.Number.{in_word, numeral, hexadecimal, after_zero, number}
 use Rattle.model_reader.specs.Parts as parts
 use Rattle.model_reader.proofs.Gives.{Gives, given, refused}
 

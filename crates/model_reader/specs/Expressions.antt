@@ -8,7 +8,7 @@ use Rattle.model_syntax.specs.declared.expr.Expr.{Expr}
 use Rattle.model_syntax.specs.declared.expr.Expr.TheVariants as e
 use Rattle.model_reader.specs.declared.words.ExprWord.{ExprWord}
 use Rattle.model_reader.specs.declared.words.ExprWord.TheVariants as word
-use Rattle.model_reader.specs.Numbers as numbers
+use Rattle.rup_base.specs.Number as numbers
 use Rattle.model_reader.specs.Words.{expr_word, scalar_of}
 use Rattle.model_reader.specs.Parts.{Answer, Kind, Rule, ◌>>=◌, wrong, nth, end, headed, some, name, number, known}
 

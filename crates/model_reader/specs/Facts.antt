@@ -6,7 +6,7 @@ use Rattle.model_syntax.specs.Names.{same}
 use Rattle.model_syntax.specs.declared.stmt.Lin.{Lin}
 use Rattle.model_syntax.specs.declared.stmt.Lin.TheVariants as l
 use Rattle.model_syntax.specs.declared.stmt.Le.{Le}
-use Rattle.model_reader.specs.Numbers as numbers
+use Rattle.rup_base.specs.Number as numbers
 use Rattle.model_reader.specs.Parts.{Answer, Kind, Rule, ◌>>=◌, wrong, nth, end, each, headed, behind, number}
 
 abbrev pub side : Kind Lin

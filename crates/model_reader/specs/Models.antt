@@ -12,7 +12,7 @@ use Rattle.model_syntax.specs.declared.program.Param.TheVariants as parameter
 use Rattle.model_syntax.specs.declared.program.Ret.{Ret}
 use Rattle.model_syntax.specs.declared.program.Ret.TheVariants as result
 use Rattle.model_syntax.specs.declared.program.Model.{Model}
-use Rattle.model_reader.specs.Numbers as numbers
+use Rattle.rup_base.specs.Number as numbers
 use Rattle.model_reader.specs.Words.{scalar_of, array_of}
 use Rattle.model_reader.specs.Statements.{block}
 use Rattle.model_reader.specs.Parts.{Answer, Reading, Kind, Rule, Name, ◌>>=◌, wrong, nth, end, headed, behind, each, alone, name, known, word}

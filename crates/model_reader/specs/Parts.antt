@@ -12,7 +12,7 @@ use Rattle.model_syntax.specs.declared.stmt.Stmt.{Stmt}
 use Rattle.model_syntax.specs.declared.program.Param.{Param}
 use Rattle.model_syntax.specs.declared.program.Ret.{Ret}
 use Rattle.model_syntax.specs.declared.program.Model.{Model}
-use Rattle.model_reader.specs.Numbers as numbers
+use Rattle.rup_base.specs.Number as numbers
 
 abbrev pub Name : Type 0
 Name = List ℕ

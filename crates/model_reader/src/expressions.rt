@@ -6,13 +6,13 @@ ghost use Rattle.model_reader.specs.Expressions as spec;
 ghost use Rattle.model_reader.specs.Reading.{reading};
 
 use crate::names::read_name;
-use crate::numbers::{number_of, read_number};
+use crate::numbers::read_number;
 use crate::parts::{
     Misread, end, form_at, headed, kids_of, known, missing, place_of, text_of, wrong,
 };
 use crate::words::{ExprWord, expr_word, scalar_of};
 use model_syntax::{Expr, Scalar};
-use rup_base::{Box, List, Name, Place};
+use rup_base::{Box, List, Name, Place, number_of};
 use std::alloc::Global;
 use sx_text::Sx;
 

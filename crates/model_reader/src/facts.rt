@@ -5,11 +5,11 @@ ghost use Rattle.model_reader.specs.Parts as parts;
 ghost use Rattle.model_reader.specs.Facts as spec;
 ghost use Rattle.model_reader.specs.Reading.{reading};
 
-use crate::numbers::{number_of, read_number};
+use crate::numbers::read_number;
 use crate::parts::{Misread, behind, end, form_at, headed, kids_of, wrong};
 use crate::words::is;
 use model_syntax::{Le, Lin};
-use rup_base::{Box, List, Name, Place};
+use rup_base::{Box, List, Name, Place, number_of};
 use std::alloc::Global;
 use sx_text::Sx;
 

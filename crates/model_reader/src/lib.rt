@@ -17,7 +17,7 @@ mod words;
 pub use expressions::read_expr;
 pub use facts::{facts_of, read_fact};
 pub use names::{read_element, read_name, read_names};
-pub use numbers::{number_of, read_number};
+pub use numbers::read_number;
 pub use parts::{
     Misread, behind, end, form_at, headed, kids_of, known, missing, place_of, text_of, wrong,
 };

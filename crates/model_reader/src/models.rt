@@ -7,14 +7,13 @@ ghost use Rattle.model_reader.specs.Reading.{reading};
 
 use crate::facts::facts_of;
 use crate::names::read_name;
-use crate::numbers::number_of;
 use crate::parts::{
     Misread, behind, end, form_at, headed, kids_of, known, place_of, text_of, wrong,
 };
 use crate::statements::read_block;
 use crate::words::{array_of, is, scalar_of};
 use model_syntax::{Le, Len, Model, Param, Ret, Scalar};
-use rup_base::{List, Name, Place};
+use rup_base::{List, Name, Place, number_of};
 use std::alloc::Global;
 use sx_text::Sx;
 

@@ -9,7 +9,8 @@ use Rattle.rup_base.specs.declared.arg.Arg.TheVariants as arg
 use Rattle.model_syntax.specs.Kinds.{is_of_kind}
 use Rattle.run_setup.specs.declared.arguments.Source.{Source}
 use Rattle.run_setup.specs.declared.arguments.Source.TheVariants.{ByItself, ByFile}
-use Rattle.run_setup.specs.Digits.{number, behind, hex_bytes}
+use Rattle.rup_base.specs.Number.{number}
+use Rattle.run_setup.specs.Digits.{behind, hex_bytes}
 
 -- the greatest number of bytes of a file of an array, and of all arrays of a run
 abbrev pub array_limit : ℕ

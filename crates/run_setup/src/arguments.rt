@@ -3,9 +3,9 @@ ghost use Rattle.std.specs.Prelude.{◌≡◌, IfOk, codes};
 ghost use Rattle.run_setup.specs.Arguments as spec;
 ghost use Rattle.run_setup.specs.Digits as digits;
 
-use crate::digits::{behind, hex_bytes, number};
+use crate::digits::{behind, hex_bytes};
 use model_syntax::is_of_kind;
-use rup_base::{Arg, Kind, List, NoMemory, Text};
+use rup_base::{Arg, Kind, List, NoMemory, Text, number_of};
 use std::alloc::Global;
 
 /// The argument, if it is one of the kind.
@@ -87,8 +87,8 @@ pub fn source_of(alloc: Global, kind: Kind, text: &[u8]) -> Result<Source, NoMem
     ensures { IfOk result (λ source. source ≡ spec.source_of kind text.now) }
 {
     match kind {
-        Kind::Word => Ok(Source::ByItself(scalar_of(kind, number(text)))),
-        Kind::Byte => Ok(Source::ByItself(scalar_of(kind, number(text)))),
+        Kind::Word => Ok(Source::ByItself(scalar_of(kind, number_of(text)))),
+        Kind::Byte => Ok(Source::ByItself(scalar_of(kind, number_of(text)))),
         Kind::Bytes(_) => array_source(alloc, kind, text),
         Kind::Words(_) => array_source(alloc, kind, text),
     }

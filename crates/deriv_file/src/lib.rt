@@ -6,7 +6,7 @@
 mod certificate_list;
 mod forest;
 mod header;
-mod laws;
+pub mod laws;
 mod node;
 mod node_list;
 mod node_value;

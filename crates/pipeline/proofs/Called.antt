@@ -23,7 +23,7 @@ use Rattle.image_layout.specs.declared.image.Image.{Image}
 use Rattle.image_layout.specs.Spelling.{spelling, code_offset, registers_of}
 use Rattle.model_command.specs.declared.command.ModelCommand.{ModelCommand}
 use Rattle.model_command.specs.Computes.{HoldsResults, InReturned}
-use Rattle.model_command.specs.Measures.{numbers}
+use Rattle.bed_syntax.specs.Shape.{numbers}
 use Rattle.sym_heap.specs.Fits.{Call, call_of, range_of}
 use Rattle.sym_heap.specs.Fits as fits
 use Rattle.rv_memory.specs.Ranges.{Range, Within, Stands}

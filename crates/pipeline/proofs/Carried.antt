@@ -15,7 +15,7 @@ use Rattle.sym_heap.specs.Arrival.{HasNumber, HasLength, HasArray, HasArguments}
 use Rattle.sym_heap.specs.Start.{length_registers, registers}
 use Rattle.model_syntax.specs.Types.{scalar_results}
 use Rattle.model_command.specs.Computes.{HoldsResults}
-use Rattle.model_command.specs.Measures.{numbers}
+use Rattle.bed_syntax.specs.Shape.{numbers}
 use Rattle.rv_memory.specs.Ranges.{Bytes, Within}
 use Rattle.rv_emit.specs.Ready.{InOne}
 use Rattle.pipeline.specs.Serves.{array_ranges}

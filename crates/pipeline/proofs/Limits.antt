@@ -19,6 +19,7 @@ use Rattle.model_syntax.specs.Entries.{entry_names, result_place}
 use Rattle.model_syntax.specs.Formed.{param_formed, facts_formed, stmt_formed, ret_formed, model_formed}
 use Rattle.model_syntax.specs.Kinds.{is_word}
 use Rattle.model_syntax.specs.Types as types
+use Rattle.model_types.specs.declared.typed.Typed.{Typed}
 use Rattle.model_syntax.specs.Types.{kind_of}
 use Rattle.sym_heap.specs.Start as start
 use Rattle.image_layout.specs.declared.image.Image.{Image}
@@ -26,6 +27,7 @@ use Rattle.image_layout.specs.Spelling as layout
 use Rattle.image_layout.specs.Spelling.{parameter, symbol, bound_term, registers_of, symbols_of, symbol_count, lists, header_length, code_offset, IsParameter, IsRequirement, IsWithinLimits}
 use Rattle.image_layout.proofs.laws.Length.{lists_small}
 use Rattle.bed_syntax.specs.declared.weights.Weights.{Weights}
+use Rattle.bed_syntax.specs.declared.weights.TheConstants as weights
 use Rattle.model_command.specs.declared.command.ModelCommand.{ModelCommand}
 use Rattle.model_command.specs.Measures.{IsMeasured, IsSmall}
 use Rattle.pipeline.specs.Around.{image_from, image_around, IsLimited}
@@ -136,11 +138,10 @@ lists_short w m c stack code tables well formed measured small limited =
     lists_small (image_around m c.bound 0 (bytes_of (0 ∷ [])) [])
     (within w m c 0 (0 ∷ []) [] well formed measured small limited (omega arith) (omega arith) (omega arith) refl (omega arith))
 
--- so are the model's lists by themselves
-pub short_lists : (w : Weights) (m : Model) (c : ModelCommand) (ks : List Kind) (fs : List LinearForm) (rs : List (Option ℕ)) (ts : List Term)
-    → types.Well m → model_formed m ≡ true → IsMeasured w m c → IsSmall c
-    → ks ≡ map kind_of m.params → fs ≡ (start.start m).facts → rs ≡ map (result_place m.params) m.rets → ts ≡ c.bound → AllByRecursion IsLimited fs
-    → length (flat_map parameter ks ++ (flat_map layout.requirement fs ++ (flat_map symbol rs ++ flat_map bound_term ts))) ≤ 450000
-short_lists w m c ks fs rs ts well formed measured small params requirements rets bound limited =
+-- so are the lists of an image that has the model's
+pub short_image : (t : Typed) (c : ModelCommand) (i : Image) → IsMeasured weights.Weights.LARGE t.inner c → IsSmall c
+    → i.params ≡ map kind_of t.inner.params → i.requires_ ≡ (start.start t.inner).facts → i.rets ≡ map (result_place t.inner.params) t.inner.rets
+    → i.bound ≡ c.bound → AllByRecursion IsLimited i.requires_ → length (lists i) ≤ 450000
+short_image t c i measured small params requirements rets bound limited =
     let facts = subst (λ (fs : List LinearForm). AllByRecursion IsLimited fs) requirements limited in
-    rw (params, requirements, rets, bound) (lists_short w m c 0 [] [] well formed measured small facts)
+    rw (params, requirements, rets, bound) (lists_short weights.Weights.LARGE t.inner c 0 [] [] t.well t.formed measured small facts)

@@ -11,7 +11,7 @@ use Rattle.model_syntax.specs.Value.{Meets, results}
 use Rattle.sym_heap.specs.Fits.{Locals, call_of, entry_numbers, array_bytes}
 use Rattle.sym_heap.specs.Arrival.{HasArguments}
 use Rattle.model_command.specs.Computes.{HoldsResults, InReturned}
-use Rattle.model_command.specs.Measures.{numbers}
+use Rattle.bed_syntax.specs.Shape.{numbers}
 use Rattle.model_command.specs.declared.command.ModelCommand.{ModelCommand}
 use Rattle.rv_memory.specs.Ranges.{Range, Within}
 use Rattle.rv_machine.specs.State.{State, register}

@@ -2,10 +2,11 @@
 ghost use Rattle.std.specs.Prelude.{◌≡◌, ◌+◌, ◌*◌, ◌%◌, ◌≤◌, [], ◌∷◌, ◌++◌, map, length, IfOk, OnOk};
 ghost use Rattle.std.specs.List.{AllByRecursion};
 ghost use Rattle.bed_syntax.specs.Named.{cmd_names};
+ghost use Rattle.image_layout.specs.Spelling as layout;
 ghost use Rattle.model_command.specs.Computes.{Computes};
 ghost use Rattle.model_command.specs.Measures.{IsMeasured, IsSmall};
 ghost use Rattle.model_syntax.specs.Entries.{number_among, param_name, result_place};
-ghost use Rattle.model_syntax.specs.Types.{Well};
+ghost use Rattle.model_syntax.specs.Types.{Well, kind_of};
 ghost use Rattle.rv_code.specs.Word.{word_of};
 ghost use Rattle.rv_emit.specs.Names.{named_in};
 ghost use Rattle.sym_heap.specs.Start.{start};
@@ -69,7 +70,7 @@ fn image_of(alloc: Global, m: &Typed, c: &ModelCommand, e: &Emitted) -> Result<I
     let params = m.kinds(alloc)?;
     let requirements = requirements_of(alloc, model)?;
     let rets = places_of(alloc, model.params.as_slice(), model.rets.as_slice())?;
-    let mut image = Image {
+    let image = Image {
         version: 1,
         params,
         requires_: requirements,
@@ -80,8 +81,26 @@ fn image_of(alloc: Global, m: &Typed, c: &ModelCommand, e: &Emitted) -> Result<I
         code: code_of(alloc, e.code.as_slice())?,
         tables: Text::from_slice(alloc, e.tables.as_slice())?,
     };
+    Ok(with_entry(m, c, image))
+}
+
+/// The image, entered where its code begins. Its lists are the model's.
+#[tactic(auto, using(crate::proofs::Limits::short_image))]
+fn with_entry(m: &Typed, c: &ModelCommand, image: Image) -> Image
+    requires measured { IsMeasured Weights.LARGE m.now.inner c.now }
+    requires small { IsSmall c.now }
+    requires params { image.params ≡ map kind_of m.now.inner.params }
+    requires requirements { image.requires_ ≡ (start m.now.inner).facts }
+    requires rets { image.rets ≡ map (result_place m.now.inner.params) m.now.inner.rets }
+    requires bound { image.bound ≡ c.now.bound }
+    requires limited { AllByRecursion IsLimited image.requires_ }
+    ensures { result ≡ record image { entry = layout.code_offset image } }
+{
+    // for the proof alone: whose lists they are
+    let _ = (m, c);
+    let mut image = image;
     image.entry = code_offset(&image);
-    Ok(image)
+    image
 }
 
 /// The requirements as forms over the entry symbols: the facts at the start.

@@ -5,7 +5,7 @@
 mod arguments;
 mod digits;
 mod judging;
-mod laws;
+pub mod laws;
 mod loading;
 mod reading;
 mod results;

@@ -1,9 +1,8 @@
 -- From a context to a later one of the same rule: what was added at its end, and what is known in each state that fits. A
 -- rule's proof starts with what its kids give, follows the rule's words, and ends with its code and its form.
-use Rattle.std.proofs.Common.{◌≡◌, refl, sym, ◌∙◌, ap, subst, arith, ℕ, zero, suc, ◌+◌, ◌<◌, ◌≤◌, Bool, true, false, List, [], ◌∷◌, ◌++◌, length, take, Option, Some, None, slice_get, Result, Ok, Err, ℤ, pos, ◌≤ℤ◌}
-use Rattle.rup_base.specs.declared.refusal.Refusal.{Refusal}
+use Rattle.std.proofs.Common.{◌≡◌, refl, sym, ◌∙◌, ap, subst, arith, ℕ, suc, ◌≤◌, true, false, List, [], ◌∷◌, ◌++◌, length, take, Some, slice_get, ℤ, pos, ◌≤ℤ◌}
 use Rattle.rv_memory.specs.Ranges.{Bytes}
-use Rattle.side_certs.specs.LinearForm.{LinearForm, symbol, value_at}
+use Rattle.side_certs.specs.LinearForm.{LinearForm, value_at}
 use Rattle.model_syntax.specs.declared.expr.Scalar.{Scalar}
 use Rattle.model_syntax.specs.declared.program.Param.{Param}
 use Rattle.model_syntax.specs.Environment.{Env}
@@ -17,11 +16,9 @@ use Rattle.sym_heap.specs.Scoped.{IsScoped}
 use Rattle.sym_heap.proofs.laws.Extending.{longer, known_more, known_value, given, given_here, given_agrees, agree_self, agree_on, consistent_top, consistent_fact, fits_top, fits_fact}
 use Rattle.sym_heap.proofs.laws.Scopes.{fresh_scoped, fact_scoped}
 use Rattle.bed_syntax.specs.Shape.{expr_locals}
-use Rattle.bed_syntax.specs.declared.expression.BExpr.{BExpr}
 use Rattle.bed_meaning.specs.Locals.{Vars, local_at}
 use Rattle.bed_meaning.specs.Value.{value}
 use Rattle.expr_rules.specs.declared.output.ExprOut.{ExprOut}
-use Rattle.expr_rules.specs.Words.{Rule, plain}
 use Rattle.expr_rules.specs.Sound.{Extends, AllKnown, AllHold, HasLocals, ExprRan, ExprDone}
 
 -- Lists that grow at their end.

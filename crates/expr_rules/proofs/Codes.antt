@@ -1,12 +1,11 @@
 -- The values and the locals of code.
-use Rattle.std.proofs.Common.{◌≡◌, refl, sym, ◌∙◌, ap, ℕ, Bool, true, List, [], ◌∷◌, ◌++◌, Option, Some, None, if◌then◌else◌}
+use Rattle.std.proofs.Common.{◌≡◌, refl, sym, ◌∙◌, ap, ℕ, Bool, true, List, [], ◌∷◌, ◌++◌, Option, Some, if◌then◌else◌}
 use Rattle.model_syntax.specs.Operation as model
 use Rattle.model_syntax.specs.declared.expr.Op.{Op}
 use Rattle.model_syntax.specs.declared.expr.Op.TheVariants as op
 use Rattle.bed_syntax.specs.Operation as bed
-use Rattle.bed_syntax.specs.Shape.{is_known, noted, expr_locals, expr_locals_step}
+use Rattle.bed_syntax.specs.Shape.{is_known, expr_locals, expr_locals_step}
 use Rattle.bed_syntax.specs.declared.operation.BOp.{BOp}
-use Rattle.bed_syntax.specs.declared.operation.BOp.TheVariants as bop
 use Rattle.bed_syntax.specs.declared.operation.Size.{Size}
 use Rattle.bed_syntax.specs.declared.expression.BExpr.{BExpr, BExpr-F, fold-BExpr, fold-roll-BExpr}
 use Rattle.bed_syntax.specs.declared.expression.BExpr.TheOpen as o

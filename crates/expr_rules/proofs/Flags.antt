@@ -1,13 +1,11 @@
 -- Flags: numbers that are 0 or 1, and lists of their facts.
-use Rattle.std.proofs.Common.{◌≡◌, refl, ◌∙◌, ap, subst, arith, ℕ, zero, suc, ◌≤◌, nat_eq, nat_lt, bit_and, bit_or, Bool, true, false, not, ◌&&◌, ◌||◌, List, [], ◌∷◌, ◌++◌, Option, Some, None, slice_get, if◌then◌else◌, ℤ, pos, ◌≤ℤ◌}
-use Rattle.side_certs.specs.LinearForm.{LinearForm, value_at}
+use Rattle.std.proofs.Common.{◌≡◌, refl, subst, arith, ℕ, zero, suc, ◌≤◌, nat_eq, nat_lt, bit_and, bit_or, Bool, true, false, ◌&&◌, ◌||◌, List, [], ◌∷◌, ◌++◌, Some, None, slice_get}
 use Rattle.model_syntax.specs.Operation.{holds}
 use Rattle.model_syntax.specs.Value.{flag, is_true}
 use Rattle.model_syntax.specs.declared.expr.Cmp.{Cmp}
 use Rattle.model_syntax.specs.declared.expr.Cmp.TheVariants as cmp
 use Rattle.bed_syntax.specs.Operation as bed
 use Rattle.expr_rules.specs.Operations.{test_of}
-use Rattle.expr_rules.specs.Sound.{AllKnown, AllHold}
 
 same_flag : (b : Bool) → bed.flag b ≡ flag b
 same_flag true = refl

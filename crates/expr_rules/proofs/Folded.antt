@@ -1,5 +1,5 @@
 -- The row of a node, from what its parts give.
-use Rattle.std.proofs.Common.{◌≡◌, ℕ, map, List, Result, Ok}
+use Rattle.std.proofs.Common.{◌≡◌, ℕ, map, Result, Ok}
 use Rattle.rup_base.specs.Answers.{AnswersWith}
 use Rattle.rup_base.specs.declared.fail.Fail.{Fail}
 use Rattle.model_syntax.specs.declared.expr.Expr.{Expr, out-Expr}

@@ -1,6 +1,5 @@
 -- Rules whose result is a further symbol: the code has a number of at most its top.
-use Rattle.std.proofs.Common.{◌≡◌, refl, sym, ◌∙◌, ap, arith, ℕ, suc, ◌+◌, ◌≤◌, List, [], ◌∷◌, ◌++◌, length, Some, None, ℤ, pos}
-use Rattle.std.proofs.lemmas.Int.{ints}
+use Rattle.std.proofs.Common.{◌≡◌, ◌∙◌, ap, arith, ℕ, suc, ◌≤◌, List, [], ◌∷◌, ◌++◌, length, Some, None, pos}
 use Rattle.rv_memory.specs.Ranges.{Bytes}
 use Rattle.side_certs.specs.LinearForm.{LinearForm, symbol, value_at}
 use Rattle.side_certs.proofs.laws.Values.{value_symbol}
@@ -8,16 +7,14 @@ use Rattle.model_syntax.specs.declared.expr.Scalar.{Scalar}
 use Rattle.model_syntax.specs.declared.program.Param.{Param}
 use Rattle.model_syntax.specs.Environment.{Env}
 use Rattle.model_syntax.specs.Scope.{Scope}
-use Rattle.model_syntax.specs.Value.{is_true}
 use Rattle.sym_heap.specs.Context.{Context, top_of, with_top}
-use Rattle.sym_heap.specs.Fits.{Call, Known, FitsBy}
+use Rattle.sym_heap.specs.Fits.{Known}
 use Rattle.sym_heap.proofs.laws.Extending.{longer, known_symbol}
 use Rattle.bed_syntax.specs.Shape.{expr_locals}
 use Rattle.bed_syntax.specs.declared.expression.BExpr.{BExpr}
-use Rattle.bed_meaning.specs.Locals.{Vars, local_at}
+use Rattle.bed_meaning.specs.Locals.{Vars}
 use Rattle.bed_meaning.specs.Value.{value}
-use Rattle.expr_rules.specs.declared.output.ExprOut.{ExprOut}
-use Rattle.expr_rules.specs.Words.{Rule, give, plain, fresh_result}
+use Rattle.expr_rules.specs.Words.{give, plain, fresh_result}
 use Rattle.expr_rules.specs.Sound.{AllKnown, AllHold, HasLocals, ExprDone, Yields}
 use Rattle.expr_rules.proofs.Yields.{yields_fresh}
 use Rattle.expr_rules.proofs.Came.{Kid, Right, Fact, Came, came_fresh, came_done, WithNumber}

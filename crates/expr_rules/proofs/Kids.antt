@@ -1,5 +1,5 @@
 -- What a rule has of its kids, where each of them is sound.
-use Rattle.std.proofs.Common.{◌≡◌, ℕ, ◌+◌, true, List, [], ◌∷◌, Ok, Err, length}
+use Rattle.std.proofs.Common.{◌≡◌, ℕ, ◌+◌, true, List, [], ◌∷◌, Ok}
 use Rattle.model_syntax.specs.declared.expr.Expr.{Expr}
 use Rattle.model_syntax.specs.declared.expr.Scalar.{Scalar}
 use Rattle.model_syntax.specs.declared.program.Param.{Param}

@@ -1,5 +1,5 @@
 -- Each node of a derivation is sound where its kids are, and so is the whole tree.
-use Rattle.std.proofs.Common.{◌≡◌, refl, sym, ◌∙◌, ap, subst, ℕ, ◌+◌, ◌%◌, ◌≤◌, Bool, true, false, ◌&&◌, List, [], ◌∷◌, map, Result, Ok, Err}
+use Rattle.std.proofs.Common.{◌≡◌, refl, sym, ◌∙◌, ap, subst, ℕ, ◌%◌, Bool, true, false, List, [], ◌∷◌, map, Ok, Err}
 use Rattle.std.proofs.lemmas.Bool.{leb-true}
 use Rattle.model_syntax.specs.declared.expr.Op.{Op}
 use Rattle.model_syntax.specs.declared.expr.Op.TheVariants as op
@@ -19,18 +19,17 @@ use Rattle.model_syntax.specs.Value.{eval, eval_step}
 use Rattle.model_syntax.proofs.laws.Answered.{first_answered, answer_is}
 use Rattle.model_syntax.proofs.laws.Arrays.{and_parts}
 use Rattle.model_syntax.proofs.laws.Expressions.{scalar_is, wanted_is, both_are}
-use Rattle.side_certs.specs.declared.certificate.Cert.{Cert}
 use Rattle.sym_heap.specs.Context.{Context, own}
 use Rattle.sym_heap.specs.Fits.{IsConsistent}
 use Rattle.sym_heap.specs.Scoped.{IsScoped}
-use Rattle.equations.specs.Book.{Turn, Laws}
+use Rattle.equations.specs.Book.{Turn}
 use Rattle.deriv_tree.specs.declared.rule.Rule as deriv
 use Rattle.deriv_tree.specs.declared.rule.Rule.TheVariants as rule
 use Rattle.deriv_tree.specs.declared.tree.Step.{Step}
 use Rattle.deriv_tree.specs.declared.tree.ExprNode.{ExprNode, ExprNode-F, ind-ExprNode, map-ExprNode, roll-ExprNode, fold-roll-ExprNode}
 use Rattle.expr_rules.specs.declared.output.ExprOut.{ExprOut}
-use Rattle.expr_rules.specs.Words.{Rule, ◌>>=◌, need, counted, has_counts, are_none, no_kid, one_kid, two_kids, Judged}
-use Rattle.expr_rules.specs.Row.{is_add, is_sub, is_and, fits, certs_of, binary, low, array_length, parts, node_row, judged_step, judged}
+use Rattle.expr_rules.specs.Words.{Rule, ◌>>=◌, need, counted, has_counts, are_none, Judged}
+use Rattle.expr_rules.specs.Row.{is_add, is_sub, is_and, fits, certs_of, binary, low, parts, node_row, judged_step, judged}
 use Rattle.expr_rules.specs.Sound.{ExprDone, Yields, IsSound, InstancesAreSound}
 use Rattle.expr_rules.specs.rules.Lit as lit
 use Rattle.expr_rules.specs.rules.Var as var
@@ -42,7 +41,7 @@ use Rattle.expr_rules.specs.rules.Both as both
 use Rattle.expr_rules.specs.rules.Either as either
 use Rattle.expr_rules.proofs.Yields.{yields_need, yields_found}
 use Rattle.expr_rules.proofs.Came.{came_start}
-use Rattle.expr_rules.proofs.Kids.{SoundKid, SoundKids, Good, Pair, yields_one, yields_two}
+use Rattle.expr_rules.proofs.Kids.{SoundKid, SoundKids, Pair, yields_one, yields_two}
 use Rattle.expr_rules.proofs.sound.Lit as lit_holds
 use Rattle.expr_rules.proofs.sound.Var as var_holds
 use Rattle.expr_rules.proofs.sound.Len as len_holds

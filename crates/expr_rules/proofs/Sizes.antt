@@ -1,9 +1,9 @@
 -- How many nodes a derivation has.
-use Rattle.std.proofs.Common.{◌≡◌, refl, ◌∙◌, ap, subst, ℕ, ◌+◌, ◌≤◌, List, [], ◌∷◌, map, sum}
+use Rattle.std.proofs.Common.{◌≡◌, refl, ◌∙◌, ap, subst, ℕ, ◌+◌, List, [], ◌∷◌, map, sum}
 use Rattle.equations.specs.Book.{Turn}
 use Rattle.deriv_tree.specs.Measure.{expr_size, expr_size_step}
 use Rattle.deriv_tree.specs.declared.tree.ExprNode.{ExprNode, ExprNode-F, ind-ExprNode, map-ExprNode, roll-ExprNode, fold-roll-ExprNode}
-use Rattle.expr_rules.specs.Words.{Judged, sizes}
+use Rattle.expr_rules.specs.Words.{Judged}
 use Rattle.expr_rules.specs.Row.{judged_step, judged}
 
 abbrev Counted : Turn → ExprNode → Type 0

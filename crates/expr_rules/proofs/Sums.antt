@@ -1,9 +1,9 @@
 -- Values of sums, and of forms that are numbers.
-use Rattle.std.proofs.Common.{◌≡◌, refl, sym, ◌∙◌, ap, arith, ℕ, ◌≤◌, Bool, true, false, ◌&&◌, nat_abs, nat_eq, List, [], ◌∷◌, length, Option, Some, None, ℤ, pos, negsuc, neg_ℤ, ◌≤ℤ◌, ◌+ℤ◌, ◌*ℤ◌, if◌then◌else◌}
+use Rattle.std.proofs.Common.{◌≡◌, refl, ◌∙◌, ap, arith, ℕ, ◌≤◌, Bool, true, false, ◌&&◌, nat_abs, nat_eq, List, [], ◌∷◌, length, Option, Some, None, ℤ, pos, negsuc, ◌≤ℤ◌, ◌+ℤ◌, ◌*ℤ◌}
 use Rattle.std.specs.Int.Signed.{le_z}
 use Rattle.std.proofs.lemmas.Bool.Decides.{nat_tests}
 use Rattle.std.proofs.lemmas.Int.{ints}
-use Rattle.side_certs.specs.LinearForm.{LinearForm, constant, plus, times, minus, value_at}
+use Rattle.side_certs.specs.LinearForm.{LinearForm, constant, times, minus, value_at}
 use Rattle.side_certs.proofs.laws.Values.{value_plus, value_times, value_constant}
 use Rattle.model_syntax.proofs.laws.Arrays.{and_parts}
 use Rattle.sym_heap.specs.Fits.{Known}

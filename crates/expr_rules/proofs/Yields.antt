@@ -1,14 +1,13 @@
 -- What holds of an answer that is there, through the words of rules.
-use Rattle.std.proofs.Common.{◌≡◌, refl, subst, sym, ◌∙◌, ap, arith, ℕ, ℤ, pos, negsuc, neg_ℤ, ◌+ℤ◌, ◌*ℤ◌, ◌≤ℤ◌, ◌≤◌, nat_le, ◌&&◌, Bool, true, false, List, [], ◌∷◌, length, Option, Some, None, Result, Ok, Err, if◌then◌else◌}
-use Rattle.std.proofs.lemmas.Int.{ints}
+use Rattle.std.proofs.Common.{◌≡◌, refl, ℕ, pos, ◌≤ℤ◌, Bool, true, false, List, [], ◌∷◌, length, Option, Some, None, Result, Ok, Err}
 use Rattle.rup_base.specs.Answers.{and_then_with}
 use Rattle.rup_base.specs.declared.refusal.Refusal.{Refusal}
-use Rattle.side_certs.specs.LinearForm.{LinearForm, symbol, is_within, within, value_at}
+use Rattle.side_certs.specs.LinearForm.{LinearForm, symbol, is_within, value_at}
 use Rattle.side_certs.specs.Closes.{closes, Holds}
 use Rattle.side_certs.specs.declared.certificate.Cert.{Cert}
 use Rattle.side_certs.proofs.laws.Closing.{closed_holds}
 use Rattle.sym_heap.specs.Context.{Context, has_symbol, with_top, has_room, with_fact}
-use Rattle.expr_rules.specs.Words.{Rule, ◌>>=◌, asked, need, there, found, made, closed, certified, cert, shown, fresh, added, fact_there, fact, number_of}
+use Rattle.expr_rules.specs.Words.{Rule, ◌>>=◌, need, found, made, cert, shown, fresh, added, fact}
 use Rattle.expr_rules.specs.Sound.{Yields}
 
 module _ {B : Type 0} (Q : B → Context → Type 0) (c : Context) where

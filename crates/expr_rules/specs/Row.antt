@@ -3,7 +3,7 @@
 -- certificates, 3 that arguments are in range, that made forms are within the limits and that there is room for what the rule
 -- adds to the context, and from 4 on the rule's own. Conditions 1 to 3 on the node alone and those on the context come before
 -- the kids, all else after them. A rule that is not built is for no expression.
-use Rattle.std.specs.Prelude.{ℕ, ◌+◌, Bool, true, false, List, map}
+use Rattle.std.specs.Prelude.{ℕ, ◌+◌, Bool, true, false, List}
 use Rattle.model_syntax.specs.Names.{Name}
 use Rattle.model_syntax.specs.declared.expr.Op.{Op}
 use Rattle.model_syntax.specs.declared.expr.Op.TheVariants as op

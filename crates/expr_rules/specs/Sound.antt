@@ -1,7 +1,7 @@
 -- When what a rule gives is right: in each state that fits the context before, the code has the expression's value, the state
 -- fits the context after, the form has the value, and a flag's facts hold. What is said of contexts alone holds whether or not
 -- any state fits.
-use Rattle.std.specs.Prelude.{◌≡◌, ℕ, ◌≤◌, ◌≤ℤ◌, ℤ, pos, true, false, List, length, take, Some, Result, Ok, Err, slice_get}
+use Rattle.std.specs.Prelude.{◌≡◌, ℕ, ◌≤◌, ◌≤ℤ◌, pos, true, false, List, length, take, Some, Result, Ok, Err, slice_get}
 use Rattle.rup_base.specs.declared.refusal.Refusal.{Refusal}
 use Rattle.rv_memory.specs.Ranges.{Bytes}
 use Rattle.side_certs.specs.LinearForm.{LinearForm, value_at}

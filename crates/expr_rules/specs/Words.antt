@@ -5,7 +5,7 @@ use Rattle.std.specs.Int.Signed.{le_z}
 use Rattle.rup_base.specs.Answers.{and_then_with}
 use Rattle.rup_base.specs.declared.refusal.Refusal.{Refusal}
 use Rattle.rup_base.specs.declared.refusal.Refusal.TheVariants.{NoInstance, BadCertificate}
-use Rattle.side_certs.specs.LinearForm.{LinearForm, constant, symbol, plus, times, is_within, within}
+use Rattle.side_certs.specs.LinearForm.{LinearForm, constant, symbol, plus, times, within}
 use Rattle.side_certs.specs.Closes.{closes}
 use Rattle.side_certs.specs.declared.certificate.Cert.{Cert}
 use Rattle.model_syntax.specs.declared.expr.Expr.{Expr}

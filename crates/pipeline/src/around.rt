@@ -70,7 +70,7 @@ fn image_of(alloc: Global, m: &Typed, c: &ModelCommand, e: &Emitted) -> Result<I
     let params = m.kinds(alloc)?;
     let requirements = requirements_of(alloc, model)?;
     let rets = places_of(alloc, model.params.as_slice(), model.rets.as_slice())?;
-    let image = Image {
+    let mut image = Image {
         version: 1,
         params,
         requires_: requirements,
@@ -81,26 +81,26 @@ fn image_of(alloc: Global, m: &Typed, c: &ModelCommand, e: &Emitted) -> Result<I
         code: code_of(alloc, e.code.as_slice())?,
         tables: Text::from_slice(alloc, e.tables.as_slice())?,
     };
-    Ok(with_entry(m, c, image))
+    image.entry = entry_of(m, c, &image);
+    Ok(image)
 }
 
-/// The image, entered where its code begins. Its lists are the model's.
+/// Where the code of an image begins whose lists are the model's.
 #[tactic(auto, using(crate::proofs::Limits::short_image))]
-fn with_entry(m: &Typed, c: &ModelCommand, image: Image) -> Image
+fn entry_of(m: &Typed, c: &ModelCommand, image: &Image) -> u32
     requires measured { IsMeasured Weights.LARGE m.now.inner c.now }
     requires small { IsSmall c.now }
-    requires params { image.params ≡ map kind_of m.now.inner.params }
-    requires requirements { image.requires_ ≡ (start m.now.inner).facts }
-    requires rets { image.rets ≡ map (result_place m.now.inner.params) m.now.inner.rets }
-    requires bound { image.bound ≡ c.now.bound }
-    requires limited { AllByRecursion IsLimited image.requires_ }
-    ensures { result ≡ record image { entry = layout.code_offset image } }
+    requires params { image.now.params ≡ map kind_of m.now.inner.params }
+    requires requirements { image.now.requires_ ≡ (start m.now.inner).facts }
+    requires rets { image.now.rets ≡ map (result_place m.now.inner.params) m.now.inner.rets }
+    requires bound { image.now.bound ≡ c.now.bound }
+    requires limited { AllByRecursion IsLimited image.now.requires_ }
+    ensures { result ≡ layout.code_offset image.now }
 {
     // for the proof alone: whose lists they are
-    let _ = (m, c);
-    let mut image = image;
-    image.entry = code_offset(&image);
-    image
+    let _ = m;
+    let _ = c;
+    code_offset(image)
 }
 
 /// The requirements as forms over the entry symbols: the facts at the start.

@@ -1,5 +1,5 @@
 -- e-add is sound: the sum is a word, so that nothing wraps.
-use Rattle.std.proofs.Common.{◌≡◌, arith, ℕ, ◌+◌, ◌≤◌, List, [], ◌∷◌, length, Some, ℤ, pos, negsuc, ◌≤ℤ◌}
+use Rattle.std.proofs.Common.{arith, ℕ, ◌+◌, ◌≤◌, List, [], ◌∷◌, length, pos, negsuc, ◌≤ℤ◌}
 use Rattle.std.proofs.lemmas.Int.{ints}
 use Rattle.side_certs.specs.declared.certificate.Cert.{Cert}
 use Rattle.side_certs.specs.LinearForm.{LinearForm, plus, value_at}
@@ -16,7 +16,7 @@ use Rattle.bed_syntax.specs.declared.operation.BOp.TheVariants as bop
 use Rattle.bed_syntax.specs.declared.expression.BExpr.{BExpr}
 use Rattle.bed_syntax.specs.declared.expression.BExpr.TheVariants as b
 use Rattle.expr_rules.specs.declared.output.ExprOut.{ExprOut}
-use Rattle.expr_rules.specs.Words.{Rule, ◌>>=◌, most, sum_of, made, give, plain}
+use Rattle.expr_rules.specs.Words.{◌>>=◌, most, sum_of, made, give, plain}
 use Rattle.expr_rules.specs.Sound.{ExprDone, Yields}
 use Rattle.expr_rules.specs.rules.Add.{after}
 use Rattle.expr_rules.proofs.Codes.{value_bin, locals_bin}

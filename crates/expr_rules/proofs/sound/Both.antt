@@ -1,5 +1,5 @@
 -- e-both is sound.
-use Rattle.std.proofs.Common.{◌≡◌, sym, ◌∙◌, ap, arith, ℕ, ◌≤◌, Bool, true, false, ◌&&◌, List, [], ◌∷◌, ◌++◌, length, Some, ℤ, pos, ◌≤ℤ◌}
+use Rattle.std.proofs.Common.{sym, ◌∙◌, ap, ℕ, ◌&&◌, List, [], ◌++◌, length, Some, pos, ◌≤ℤ◌}
 use Rattle.side_certs.specs.LinearForm.{LinearForm, symbol, value_at}
 use Rattle.side_certs.proofs.laws.Values.{value_symbol}
 use Rattle.model_syntax.specs.declared.expr.Scalar.TheVariants.{Flag}
@@ -11,7 +11,6 @@ use Rattle.model_syntax.proofs.laws.Arrays.{and_parts}
 use Rattle.sym_heap.specs.Context.{Context, with_top}
 use Rattle.sym_heap.specs.Fits.{Known}
 use Rattle.bed_syntax.specs.declared.operation.BOp.TheVariants as bop
-use Rattle.bed_syntax.specs.declared.expression.BExpr.{BExpr}
 use Rattle.bed_syntax.specs.declared.expression.BExpr.TheVariants as b
 use Rattle.expr_rules.specs.declared.output.ExprOut.{ExprOut}
 use Rattle.expr_rules.specs.Words.{give}

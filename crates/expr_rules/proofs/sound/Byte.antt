@@ -1,5 +1,5 @@
 -- e-byte is sound: a word that is at most 255 is its lowest byte.
-use Rattle.std.proofs.Common.{◌≡◌, ◌∙◌, sym, ap, arith, ℕ, ◌%◌, ◌≤◌, List, [], ◌∷◌, Some, ℤ, pos, negsuc, ◌≤ℤ◌}
+use Rattle.std.proofs.Common.{◌≡◌, ◌∙◌, sym, ap, arith, ℕ, ◌%◌, ◌≤◌, List, [], ◌∷◌, Some, pos, negsuc, ◌≤ℤ◌}
 use Rattle.std.proofs.lemmas.Int.{ints}
 use Rattle.side_certs.specs.declared.certificate.Cert.{Cert}
 use Rattle.side_certs.specs.LinearForm.{LinearForm, value_at}

@@ -1,8 +1,8 @@
 -- e-cmp is sound: what a comparison says of its parts holds where it does.
-use Rattle.std.proofs.Common.{◌≡◌, refl, sym, ◌∙◌, ap, arith, ℕ, ◌<◌, ◌≤◌, nat_eq, nat_lt, Bool, true, false, List, [], ◌∷◌, ◌++◌, length, Some, ℤ, pos, negsuc, ◌≤ℤ◌}
+use Rattle.std.proofs.Common.{◌≡◌, refl, sym, ◌∙◌, ap, arith, ℕ, ◌<◌, ◌≤◌, Bool, true, false, List, [], ◌∷◌, length, Some, pos, negsuc, ◌≤ℤ◌}
 use Rattle.std.proofs.lemmas.Bool.Decides.{nat_tests}
 use Rattle.std.proofs.lemmas.Int.{ints}
-use Rattle.side_certs.specs.LinearForm.{LinearForm, constant, symbol, plus, times, minus, is_within, within, value_at}
+use Rattle.side_certs.specs.LinearForm.{LinearForm, constant, symbol, plus, times, minus, is_within, value_at}
 use Rattle.side_certs.proofs.laws.Values.{value_symbol, value_minus}
 use Rattle.model_syntax.specs.declared.expr.Cmp.{Cmp}
 use Rattle.model_syntax.specs.declared.expr.Cmp.TheVariants as cmp
@@ -11,7 +11,7 @@ use Rattle.model_syntax.specs.declared.program.Param.{Param}
 use Rattle.model_syntax.specs.Environment.{Env}
 use Rattle.model_syntax.specs.Operation.{holds}
 use Rattle.model_syntax.specs.Scope.{Scope}
-use Rattle.model_syntax.specs.Value.{flag, is_true}
+use Rattle.model_syntax.specs.Value.{flag}
 use Rattle.sym_heap.specs.Context.{Context, with_top}
 use Rattle.sym_heap.specs.Fits.{Known}
 use Rattle.sym_heap.proofs.laws.Extending.{known_plus, known_times, known_constant}

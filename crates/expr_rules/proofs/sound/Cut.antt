@@ -1,5 +1,5 @@
 -- e-cut is sound.
-use Rattle.std.proofs.Common.{◌≡◌, ◌∙◌, ap, arith, ℕ, ◌%◌, ◌≤◌, List, Some}
+use Rattle.std.proofs.Common.{◌∙◌, ap, arith, ℕ, ◌%◌, List, Some}
 use Rattle.equations.specs.laws.Words.{byte_masks}
 use Rattle.model_syntax.specs.declared.expr.Scalar.TheVariants.{Word, Byte}
 use Rattle.model_syntax.specs.declared.program.Param.{Param}

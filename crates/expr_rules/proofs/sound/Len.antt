@@ -1,8 +1,8 @@
 -- e-len is sound.
-use Rattle.std.proofs.Common.{◌≡◌, refl, sym, ◌∙◌, ap, arith, ℕ, ◌≤◌, min, List, length, Option, Some, None, ℤ, pos}
+use Rattle.std.proofs.Common.{◌≡◌, refl, sym, ◌∙◌, ap, arith, ℕ, ◌≤◌, List, length, Option, Some, None, pos}
 use Rattle.std.specs.Prelude.{option_map}
 use Rattle.std.proofs.lemmas.Int.{ints}
-use Rattle.side_certs.specs.LinearForm.{LinearForm, value_at}
+use Rattle.side_certs.specs.LinearForm.{value_at}
 use Rattle.model_syntax.specs.declared.expr.Scalar.TheVariants.{Word}
 use Rattle.model_syntax.specs.declared.program.Param.{Param}
 use Rattle.model_syntax.specs.Environment.{Env, value_of, elements, size}
@@ -15,7 +15,6 @@ use Rattle.sym_heap.proofs.laws.Extending.{Standing, standing}
 use Rattle.bed_syntax.specs.declared.expression.BExpr.{BExpr}
 use Rattle.bed_syntax.specs.declared.expression.BExpr.TheVariants as b
 use Rattle.bed_meaning.specs.Locals.{local_at}
-use Rattle.expr_rules.specs.declared.output.ExprOut.{ExprOut}
 use Rattle.expr_rules.specs.Words.{most, number_in, give, plain}
 use Rattle.expr_rules.specs.Sound.{ExprDone, Yields}
 use Rattle.expr_rules.specs.rules.Len.{code, after}

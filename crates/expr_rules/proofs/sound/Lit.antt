@@ -1,5 +1,5 @@
 -- e-lit is sound.
-use Rattle.std.proofs.Common.{◌≡◌, ℕ, ◌≤◌, List, length, pos}
+use Rattle.std.proofs.Common.{ℕ, ◌≤◌, List, length, pos}
 use Rattle.side_certs.specs.LinearForm.{constant}
 use Rattle.side_certs.proofs.laws.Values.{value_constant}
 use Rattle.model_syntax.specs.declared.expr.Scalar.TheVariants.{Word}

@@ -1,5 +1,5 @@
 -- e-mask is sound.
-use Rattle.std.proofs.Common.{◌≡◌, ◌∙◌, ap, arith, ℕ, ◌≤◌, List, [], ◌∷◌, ◌++◌, length, Some, bit_and, ℤ, pos, ◌≤ℤ◌}
+use Rattle.std.proofs.Common.{◌≡◌, ◌∙◌, ap, arith, ℕ, ◌≤◌, List, length, bit_and, pos}
 use Rattle.std.proofs.lemmas.Int.{ints}
 use Rattle.std.proofs.lemmas.Nat.{and_le_l, and_le_r}
 use Rattle.side_certs.specs.LinearForm.{LinearForm, symbol, minus, value_at}
@@ -16,7 +16,7 @@ use Rattle.bed_syntax.specs.declared.operation.BOp.TheVariants as bop
 use Rattle.bed_syntax.specs.declared.expression.BExpr.{BExpr}
 use Rattle.bed_syntax.specs.declared.expression.BExpr.TheVariants as b
 use Rattle.expr_rules.specs.declared.output.ExprOut.{ExprOut}
-use Rattle.expr_rules.specs.Words.{Rule, ◌>>=◌, most, number_in, fresh, fact, give, plain}
+use Rattle.expr_rules.specs.Words.{◌>>=◌, most, number_in, fresh, fact, give, plain}
 use Rattle.expr_rules.specs.Sound.{ExprDone, Yields}
 use Rattle.expr_rules.specs.rules.Mask.{after}
 use Rattle.expr_rules.proofs.Codes.{value_bin, locals_bin}

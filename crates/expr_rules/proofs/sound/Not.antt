@@ -1,7 +1,7 @@
 -- e-not is sound: the facts of the flag that is true are those of the other one where it is false.
-use Rattle.std.proofs.Common.{◌≡◌, refl, sym, ◌∙◌, ap, arith, ℕ, zero, suc, ◌-◌, ◌≤◌, nat_eq, Bool, true, false, not, List, [], ◌∷◌, length, Some, ℤ, pos, negsuc, if◌then◌else◌}
+use Rattle.std.proofs.Common.{◌≡◌, refl, ◌∙◌, ap, arith, ℕ, zero, suc, ◌-◌, ◌≤◌, nat_eq, true, false, not, List, [], ◌∷◌, length, Some, pos, negsuc}
 use Rattle.std.proofs.lemmas.Int.{ints}
-use Rattle.side_certs.specs.LinearForm.{LinearForm, value_at}
+use Rattle.side_certs.specs.LinearForm.{LinearForm}
 use Rattle.model_syntax.specs.declared.expr.Scalar.TheVariants.{Flag}
 use Rattle.model_syntax.specs.declared.program.Param.{Param}
 use Rattle.model_syntax.specs.Environment.{Env}
@@ -10,7 +10,6 @@ use Rattle.model_syntax.specs.Value.{flag, is_true}
 use Rattle.sym_heap.specs.Context.{Context}
 use Rattle.bed_syntax.specs.Operation as bed
 use Rattle.bed_syntax.specs.declared.operation.BOp.TheVariants as bop
-use Rattle.bed_syntax.specs.declared.expression.BExpr.{BExpr}
 use Rattle.bed_syntax.specs.declared.expression.BExpr.TheVariants as b
 use Rattle.expr_rules.specs.declared.output.ExprOut.{ExprOut}
 use Rattle.expr_rules.specs.Words.{sum_of, give}

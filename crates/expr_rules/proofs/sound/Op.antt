@@ -1,5 +1,5 @@
 -- e-op is sound.
-use Rattle.std.proofs.Common.{◌≡◌, ◌∙◌, ap, arith, ℕ, ◌≤◌, List, Some}
+use Rattle.std.proofs.Common.{◌∙◌, ap, arith, ℕ, ◌≤◌, List, Some}
 use Rattle.std.proofs.lemmas.Bool.{leb-true, le-leb}
 use Rattle.model_syntax.specs.declared.expr.Op.{Op}
 use Rattle.model_syntax.specs.declared.expr.Scalar.TheVariants.{Word}

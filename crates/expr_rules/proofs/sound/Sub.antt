@@ -1,5 +1,5 @@
 -- e-sub is sound: the difference is not below 0, so that nothing wraps.
-use Rattle.std.proofs.Common.{◌≡◌, arith, ℕ, ◌+◌, ◌≤◌, List, [], ◌∷◌, length, Some, ℤ, pos, negsuc, ◌≤ℤ◌}
+use Rattle.std.proofs.Common.{arith, ℕ, ◌≤◌, List, length, pos, ◌≤ℤ◌}
 use Rattle.std.proofs.lemmas.Int.{ints}
 use Rattle.side_certs.specs.declared.certificate.Cert.{Cert}
 use Rattle.side_certs.specs.LinearForm.{LinearForm, minus, value_at}
@@ -15,7 +15,7 @@ use Rattle.bed_syntax.specs.declared.operation.BOp.TheVariants as bop
 use Rattle.bed_syntax.specs.declared.expression.BExpr.{BExpr}
 use Rattle.bed_syntax.specs.declared.expression.BExpr.TheVariants as b
 use Rattle.expr_rules.specs.declared.output.ExprOut.{ExprOut}
-use Rattle.expr_rules.specs.Words.{Rule, ◌>>=◌, made, give, plain}
+use Rattle.expr_rules.specs.Words.{◌>>=◌, made, give, plain}
 use Rattle.expr_rules.specs.Sound.{ExprDone, Yields}
 use Rattle.expr_rules.specs.rules.Sub.{after}
 use Rattle.expr_rules.proofs.Codes.{value_bin, locals_bin}

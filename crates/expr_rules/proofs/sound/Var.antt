@@ -1,27 +1,24 @@
 -- e-var is sound.
-use Rattle.std.proofs.Common.{◌≡◌, refl, sym, ◌∙◌, ap, subst, ℕ, ◌≤◌, Bool, true, List, length, Option, Some, None, pos}
-use Rattle.rup_base.specs.declared.arg.Arg.TheVariants as arg
+use Rattle.std.proofs.Common.{◌≡◌, refl, sym, ◌∙◌, ap, subst, ℕ, ◌≤◌, List, Option, Some, None, pos}
 use Rattle.model_syntax.specs.declared.expr.Scalar.{Scalar}
 use Rattle.model_syntax.specs.declared.program.Param.{Param}
-use Rattle.model_syntax.specs.declared.scope.NameType.{NameType}
-use Rattle.model_syntax.specs.declared.scope.NameType.TheVariants.{Scalar as One, Array as Many}
-use Rattle.model_syntax.specs.Environment.{Env, value_of, number}
-use Rattle.model_syntax.specs.Names.{Name, same}
+use Rattle.model_syntax.specs.declared.scope.NameType.TheVariants.{Scalar as One}
+use Rattle.model_syntax.specs.Environment.{value_of, number}
+use Rattle.model_syntax.specs.Names.{Name}
 use Rattle.model_syntax.specs.Scope.{Scope, look_up}
 use Rattle.model_syntax.proofs.laws.Bindings.{same_is}
 use Rattle.sym_heap.specs.declared.parts.Held.{Held}
 use Rattle.sym_heap.specs.Context.{Context, scalar, is_scalar, top_of}
-use Rattle.sym_heap.specs.Fits.{FitsBy, ScalarFits}
+use Rattle.sym_heap.specs.Fits.{ScalarFits}
 use Rattle.sym_heap.proofs.laws.Extending.{Standing, standing}
 use Rattle.bed_syntax.specs.declared.expression.BExpr.TheVariants as b
 use Rattle.bed_meaning.specs.Locals.{local_at}
-use Rattle.expr_rules.specs.Words.{give, plain}
+use Rattle.expr_rules.specs.Words.{plain}
 use Rattle.expr_rules.specs.Sound.{ExprDone, Yields}
 use Rattle.expr_rules.specs.rules.Var.{after}
 use Rattle.expr_rules.proofs.Codes.{value_var, locals_var}
 use Rattle.expr_rules.proofs.Came.{Nothing, Came, came_done}
 use Rattle.expr_rules.proofs.Fresh.{plain_kid, plain_right}
-use Rattle.expr_rules.proofs.Yields.{yields_found}
 
 pub sound : (ps : List Param) (scope : Scope) (c : Context) → Came Nothing ps scope c c → (at : ℕ) (x : Name) (t : Scalar) → look_up scope x ≡ Some (One t)
     → Yields (ExprDone ps scope (λ env. number (value_of env x)) t c) (after at x c)

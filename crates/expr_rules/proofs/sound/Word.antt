@@ -1,5 +1,5 @@
 -- e-word is sound.
-use Rattle.std.proofs.Common.{◌≡◌, arith, ℕ, ◌≤◌, List}
+use Rattle.std.proofs.Common.{arith, ℕ, ◌≤◌, List}
 use Rattle.model_syntax.specs.declared.expr.Scalar.{Scalar}
 use Rattle.model_syntax.specs.declared.expr.Scalar.TheVariants.{Word, Byte, Flag}
 use Rattle.model_syntax.specs.declared.program.Param.{Param}

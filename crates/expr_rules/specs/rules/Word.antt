@@ -1,5 +1,4 @@
 -- e-word: the word of a byte or a flag has its code and its form.
-use Rattle.std.specs.Prelude.{ℕ}
 use Rattle.expr_rules.specs.declared.output.ExprOut.{ExprOut}
 use Rattle.expr_rules.specs.Words.{Rule, give, plain}
 

@@ -10,7 +10,7 @@ use std::alloc::Global;
 use sym_heap::{Clause, Ctx, Held};
 
 /// The context at the start of a well typed model.
-fn start_of(alloc: Global, text: &str) -> Result<Ctx, Fault> {
+pub fn start_of(alloc: Global, text: &str) -> Result<Ctx, Fault> {
     let bytes = operand(alloc, text)?;
     let Ok(model) = read_model(alloc, 1, bytes.as_slice()) else {
         return Err(Fault::BadLine);
@@ -24,31 +24,55 @@ fn start_of(alloc: Global, text: &str) -> Result<Ctx, Fault> {
 /// The parts of a start: scalars, arrays, facts, tops, and the number of entry symbols.
 pub fn started(alloc: Global, text: &str) -> Result<String, Fault> {
     let context = start_of(alloc, text)?;
-    let mut line = String::from_str(alloc, "scalars")?;
-    for held in context.scalars() {
-        put_held(&mut line, held)?;
-    }
-    line.push_str("; arrays")?;
-    for clause in context.clauses() {
-        put_clause(&mut line, clause)?;
-    }
-    put_rest(&mut line, &context)?;
+    let mut line = String::new(alloc);
+    put_context(&mut line, &context)?;
     Ok(line)
 }
 
-/// Puts the facts, the tops and the number of entry symbols behind a line.
-fn put_rest(line: &mut String, context: &Ctx) -> Result<(), Fault> {
-    line.push_str("; facts")?;
+/// Puts the parts of a context behind a line.
+pub fn put_context(line: &mut String, context: &Ctx) -> Result<(), Fault> {
+    put_scalars(line, context)?;
+    line.push_str("; ")?;
+    put_arrays(line, context)?;
+    line.push_str("; ")?;
+    put_facts(line, context)?;
+    line.push_str("; ")?;
+    put_tops(line, context)?;
+    write!(line, "; entries {}", context.entries())?;
+    Ok(())
+}
+
+pub fn put_scalars(line: &mut String, context: &Ctx) -> Result<(), Fault> {
+    line.push_str("scalars")?;
+    for held in context.scalars() {
+        put_held(line, held)?;
+    }
+    Ok(())
+}
+
+pub fn put_arrays(line: &mut String, context: &Ctx) -> Result<(), Fault> {
+    line.push_str("arrays")?;
+    for clause in context.clauses() {
+        put_clause(line, clause)?;
+    }
+    Ok(())
+}
+
+pub fn put_facts(line: &mut String, context: &Ctx) -> Result<(), Fault> {
+    line.push_str("facts")?;
     for fact in context.facts() {
         line.push_str(" [")?;
         put_form(line, fact)?;
         line.push_str("]")?;
     }
-    line.push_str("; tops")?;
+    Ok(())
+}
+
+pub fn put_tops(line: &mut String, context: &Ctx) -> Result<(), Fault> {
+    line.push_str("tops")?;
     for top in context.tops() {
         write!(line, " {top}")?;
     }
-    write!(line, "; entries {}", context.entries())?;
     Ok(())
 }
 
@@ -98,25 +122,41 @@ pub fn free(alloc: Global, line: &str) -> Result<String, Fault> {
     let (local, rest) = line.split_once(" | ").unwrap_or((line, ""));
     let (name, text) = rest.split_once(" | ").unwrap_or((rest, ""));
     let context = start_of(alloc, text)?;
+    let answer = freedom(alloc, &context, local, name)?;
+    Ok(String::from_str(alloc, answer)?)
+}
+
+/// Whether a local is free for a name, or for none, in words.
+pub fn freedom(
+    alloc: Global,
+    context: &Ctx,
+    local: &str,
+    name: &str,
+) -> Result<&'static str, Fault> {
     let local = number_of(local)?;
     let name = Name::read(alloc, name.as_bytes())?;
-    let answer = if context.is_free(local, name.as_ref()) {
+    Ok(if context.is_free(local, name.as_ref()) {
         "free"
     } else {
         "taken"
-    };
-    Ok(String::from_str(alloc, answer)?)
+    })
 }
 
 /// How many of so many facts there is room for, as `4097 | (model ..)`.
 pub fn facts(alloc: Global, line: &str) -> Result<String, Fault> {
     let (count, text) = line.split_once(" | ").unwrap_or((line, ""));
     let mut context = start_of(alloc, text)?;
+    let taken = add_facts(&mut context, number_of(count)?)?;
+    Ok(format!(in alloc; "{taken}")?)
+}
+
+/// Adds so many facts, and counts those that there is room for.
+pub fn add_facts(context: &mut Ctx, count: u32) -> Result<u32, Fault> {
     let mut taken = 0u32;
-    for _fact in 0..number_of(count)? {
+    for _fact in 0..count {
         if context.add_fact(Form::symbol(0))? {
             taken = taken.saturating_add(1);
         }
     }
-    Ok(format!(in alloc; "{taken}")?)
+    Ok(taken)
 }

@@ -3,6 +3,7 @@
 #![tactic(auto)]
 
 mod bounds;
+mod calls;
 mod contexts;
 mod derivations;
 mod forms;
@@ -13,7 +14,7 @@ use std::process::ExitCode;
 use std::{fs, io};
 
 /// The files with the rows, in the order in which they are run.
-const FILES: [&str; 4] = ["certificates", "bounds", "contexts", "derivations"];
+const FILES: [&str; 5] = ["certificates", "bounds", "contexts", "calls", "derivations"];
 
 fn main(rt: HostRuntime) -> ExitCode {
     match run(&rt) {
@@ -52,6 +53,7 @@ fn answer(alloc: Global, call: &str) -> Result<String, Fault> {
         b"start" => contexts::started(alloc, rest),
         b"free" => contexts::free(alloc, rest),
         b"facts" => contexts::facts(alloc, rest),
+        b"calls" => calls::answers(alloc, rest),
         b"rule" => derivations::rule(alloc, rest),
         b"derivation" => derivations::printed(alloc, rest),
         _ => Err(Fault::BadLine),

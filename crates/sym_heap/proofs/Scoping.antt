@@ -130,7 +130,7 @@ argument_stage names scope c x t s new = record {
   once i j h k (inr at_i) (inr at_j) differ = absurd (differ (at_i.0 ∙ sym at_j.0))
 
 pointer_stage : (names : List Name) (scope : Scope) (c : Context) (p : ℕ) (a : Name) (size : ℕ) (t : Scalar) (n : Len) (f : LinearForm) (l : Option ℕ) → Stage names scope c → look_up scope a ≡ None
-    → size ≡ element_size t → IsLength names n f l → Stage names (bind a (Many t n) scope) (with_pointer p a size f l c)
+    → element_size t ≡ Some size → IsLength names n f l → Stage names (bind a (Many t n) scope) (with_pointer p a size f l c)
 pointer_stage names scope c p a size t n f l s new size_is length_is = record {
   scalars = λ i h at. bound_before scope a (Many t n) h.name (One h.kind) new (s.scalars i h at);
   every_scalar = λ y u at. scalar y u (same a y) refl at;
@@ -176,7 +176,7 @@ argument_here scope d c x t s is =
     (subst (λ (names : List Name). Stage names (bind x (One t) scope) (with_argument x t c)) (sym (map_last (λ (h : Held). h.name) c.scalars (held x (next_local c) (symbol (length c.scalars)) t)))
     (argument_stage (scalar_names c ++ x ∷ []) scope c x t s new.0))
 
-array_here : (scope d : Scope) (c : Context) (p : ℕ) (a : Name) (size : ℕ) (t : Scalar) (n : Len) → Here scope c → (types.declare a (Many t n) scope >>= types.declare_length n) ≡ Ok d → size ≡ element_size t → Here d (with_array p a size n c)
+array_here : (scope d : Scope) (c : Context) (p : ℕ) (a : Name) (size : ℕ) (t : Scalar) (n : Len) → Here scope c → (types.declare a (Many t n) scope >>= types.declare_length n) ≡ Ok d → element_size t ≡ Some size → Here d (with_array p a size n c)
 array_here scope d c p a size t n s is size_is = by n refl parts.two where
   parts : Answered (types.declare a (Many t n) scope) (types.declare_length n) d
   parts = answered _ _ d is

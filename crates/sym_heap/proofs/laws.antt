@@ -5,7 +5,9 @@ pub mod Extending
 pub mod Lookups
 pub mod Moves
 pub mod Moving
+pub mod Rehearsal
 pub mod Scopes
 pub mod Settling
 pub mod States
+pub mod Turns
 pub mod Writes

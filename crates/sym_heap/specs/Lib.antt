@@ -4,8 +4,10 @@ pub mod Elements
 pub mod Ends
 pub mod Fits
 pub mod Moves
+pub mod Rehearsal
 pub mod Scoped
 pub mod Settle
 pub mod Sides
 pub mod Start
+pub mod Turns
 pub mod Writes

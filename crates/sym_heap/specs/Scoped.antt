@@ -21,10 +21,10 @@ use Rattle.sym_heap.specs.Moves.{Follow, ParamsOnce}
 use Rattle.sym_heap.specs.Start.{start}
 
 -- the bytes of an element: arrays are of bytes or words
-abbrev pub element_size : Scalar → ℕ
-element_size Word = 4
-element_size Byte = 1
-element_size Flag = 4
+abbrev pub element_size : Scalar → Option ℕ
+element_size Word = Some 4
+element_size Byte = Some 1
+element_size Flag = None
 
 -- the length is the entry symbol of this name, whose number a local holds
 pub record IsEntryLength (names : List Name) (x : Name) (f : LinearForm) (l : Option ℕ) : Type 0 where
@@ -43,7 +43,7 @@ pub record IsArrayOf (names : List Name) (scope : Scope) (k : Clause) : Type 0 w
   pub element : Scalar
   pub len : Len
   pub type : look_up scope k.name ≡ Some (Many element len)
-  pub size : k.size ≡ element_size element
+  pub size : element_size element ≡ Some k.size
   pub length_is : IsLength names len k.length k.length_local
 
 pub record IsScoped (ps : List Param) (scope : Scope) (c : Context) : Type 0 where

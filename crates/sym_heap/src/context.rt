@@ -68,7 +68,8 @@ impl Ctx {
         })
     }
 
-    /// The allocator that the context grows by. It is no part of what a context says, and no clause speaks of it.
+    /// The allocator that the context was made with and grows by. No clause says so, for it is no part of what a context
+    /// is: `start` and `copy` set it, and no other call does.
     pub fn allocator(&self) -> Global {
         self.alloc
     }

@@ -1,7 +1,9 @@
 //! What holds of contexts and states.
 ghost use Rattle.sym_heap.specs.Arrival.{StartFits};
 ghost use Rattle.sym_heap.specs.Moves.{CallsMove};
+ghost use Rattle.sym_heap.specs.Rehearsal.{LoopsRehearsed};
 ghost use Rattle.sym_heap.specs.Scoped.{StartIsScoped, CallsAreScoped, EndsAreScoped};
+ghost use Rattle.sym_heap.specs.Turns.{TurnsFit};
 ghost use Rattle.sym_heap.specs.Writes.{WritesFit};
 
 /// Where the arguments meet the model and stand in locals and memory as they should, the context at the start fits,
@@ -34,4 +36,16 @@ pub fn writes_fit()
 /// What the ends of blocks make of a context says of names what the scope after them does.
 pub fn ends_are_scoped()
     ensures { EndsAreScoped }
+{}
+
+/// The context at the start of a loop's block fits in every turn, whatever the turns before have written, and the context after
+/// the loop fits when none is left.
+pub fn turns_fit()
+    ensures { TurnsFit }
+{}
+
+/// The context at the start of a model says of names what its scope does and fits each call, and from there a loop that writes
+/// to a listed array goes round.
+pub fn loops_rehearsed()
+    ensures { LoopsRehearsed }
 {}

@@ -10,7 +10,8 @@ mod sides;
 
 pub use context::{Ctx, Mark};
 pub use laws::{
-    calls_are_scoped, calls_move, ends_are_scoped, start_fits, start_is_scoped, writes_fit,
+    calls_are_scoped, calls_move, ends_are_scoped, loops_rehearsed, start_fits, start_is_scoped,
+    turns_fit, writes_fit,
 };
 pub use parts::{Clause, Held};
 pub use sides::{NameForms, difference};

@@ -26,7 +26,7 @@ before (x ∷ xs) ys zero less = refl
 before (x ∷ xs) ys (suc j) less = before xs ys j (omega (arith, less))
 
 -- a place of a chunk of w in the chunks of a list
-chunk : {X A : Type 0} (f : X → List A) (w : ℕ) → ((x : X) → length (f x) ≡ w) → (xs : List X) (i : ℕ) (x : X) (k : ℕ) → slice_get xs i ≡ Some x → k < w → slice_get (flat_map f xs) (w * i + k) ≡ slice_get (f x) k
+pub chunk : {X A : Type 0} (f : X → List A) (w : ℕ) → ((x : X) → length (f x) ≡ w) → (xs : List X) (i : ℕ) (x : X) (k : ℕ) → slice_get xs i ≡ Some x → k < w → slice_get (flat_map f xs) (w * i + k) ≡ slice_get (f x) k
 chunk f w size [] i x k at less = absurd (let bad : None ≡ Some x = at in cc)
 chunk f w size (y ∷ ys) zero x k at less =
     let same : y ≡ x = cc in

@@ -132,7 +132,7 @@ over_scoped ps names scope end_scope after c one two s e a = record {
         element = o.element;
         len = o.len;
         type = ap (look_up after) f.taken_one.name ∙ a.arrays i f.last f.at_last ∙ o.type;
-        size = f.taken_one.size ∙ sym f.same_one.size ∙ o.size;
+        size = o.size ∙ ap Some (sym (f.taken_one.size ∙ sym f.same_one.size));
         length_is = length_as (entry_names ps) o.len j.length f.last.length j.length_local f.last.length_local
             (f.taken_one.length_same ∙ sym f.same_one.length_same) (f.taken_one.length_local ∙ sym f.same_one.length_local) o.length_is;
       }

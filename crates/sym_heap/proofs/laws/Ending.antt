@@ -12,10 +12,10 @@ use Rattle.sym_heap.specs.Context.{Context, scalar, has, back_to}
 use Rattle.sym_heap.specs.Ends.{of_param, taken_over, at_ends, standing, with_ends}
 use Rattle.sym_heap.specs.Fits.{Call, Locals, IsArray, array_bytes, range_of, Known, IsConsistent, ScalarFits, ClauseFits, FitsBy, Agree}
 use Rattle.sym_heap.specs.Moves.{Follow, ParamsOnce}
-use Rattle.sym_heap.specs.Settle.{IsKnown, FitsRest, among}
+use Rattle.sym_heap.specs.Settle.{IsKnown, FitsRest, none, among}
 use Rattle.sym_heap.proofs.laws.EndScopes.{mapped, later}
-use Rattle.sym_heap.proofs.laws.Lookups.{clause_stands, scalar_stands, clause_found}
-use Rattle.sym_heap.proofs.laws.States.{MoreTops, known_of, consistent_of, known_same, wider_known}
+use Rattle.sym_heap.proofs.laws.Lookups.{clause_stands, scalar_stands, found_at, name_of_clause}
+use Rattle.sym_heap.proofs.laws.States.{MoreTops, known_of, consistent_of, known_same, wider_known, rest_of_fits}
 
 -- Contexts after ends.
 
@@ -138,21 +138,22 @@ pub record EndsHold (names : List Name) (c d end_ : Context) (env end_env after_
   pub values : (x : Name) (h : Held) → scalar c x ≡ Some h → listed x names ≡ false → value_of after_env x ≡ value_of env x
   pub locals_kept : (x : Name) (h : Held) → scalar c x ≡ Some h → listed x names ≡ false → end_locals h.local ≡ locals h.local
 
--- A state that fits the end of a block fits the context that is gone back to, but for the listed scalars, with the numbers that
--- symbols had before the block. The end is the context before itself where a block did not run.
-pub ends_fit : (names : List Name) (call : Call) (v u w : ℕ → ℕ) (c d end_ : Context) (env end_env after_env : Env) (mem end_mem : Bytes) (locals end_locals : Locals)
-    → IsOver c d → Follow c.clauses end_.clauses → FitsBy call v c env mem locals → FitsBy call u end_ end_env end_mem end_locals
+-- A state that fits the end of a block, but for some scalars, fits the context that is gone back to, but for the listed scalars, with
+-- the numbers that symbols had before the block, where the context of before need not fit by them but for the listed scalars either.
+-- The end is the context before itself where a block did not run.
+pub ends_rest : (spared : Name → Bool) (names : List Name) (call : Call) (v u w : ℕ → ℕ) (c d end_ : Context) (env end_env after_env : Env) (mem end_mem : Bytes) (locals end_locals : Locals)
+    → IsOver c d → Follow c.clauses end_.clauses → FitsRest (among names) call v c env mem locals → FitsRest spared call u end_ end_env end_mem end_locals
     → Agree (length c.tops) v u → Agree (length c.tops) v w → ((s top : ℕ) → slice_get d.tops s ≡ Some top → w s ≤ top)
     → EndsHold names c d end_ env end_env after_env locals end_locals
     → FitsRest (among names) call w d after_env end_mem end_locals
-ends_fit names call v u w c d end_ env end_env after_env mem end_mem locals end_locals over follow fits end_fits at_end agree below hold = record {
+ends_rest spared names call v u w c d end_ env end_env after_env mem end_mem locals end_locals over follow fits end_fits at_end agree below hold = record {
   known = over.known;
   entry_count = over.entries ∙ fits.entry_count;
-  entries = λ s n at. (let less = slice_get_within call.entries s n at in let count = fits.entry_count in let few = fits.consistent.entries_known in
+  entries = λ s n at. (let less = slice_get_within call.entries s n at in let count = fits.entry_count in let few = fits.known.entries_known in
       agree s (omega (arith, less, count, few)) ∙ fits.entries s n at);
   holds = (
     λ i f at. (let old : slice_get c.facts i ≡ Some f = ap (λ fs. slice_get fs i) (sym over.facts) ∙ at in
-        subst (λ (z : ℤ). pos 0 ≤ℤ z) (sym (known_same (length c.tops) f v w (fits.consistent.facts_known i f old) agree)) (fits.holds.0 i f old)),
+        subst (λ (z : ℤ). pos 0 ≤ℤ z) (sym (known_same (length c.tops) f v w (fits.known.facts_known i f old) agree)) (fits.holds.0 i f old)),
     below,
   );
   scalars = λ x h at free. scalar_fits x h (sym (ap (λ hs. scalar (record c { scalars = hs }) x) over.scalars) ∙ at) free;
@@ -164,13 +165,13 @@ ends_fit names call v u w c d end_ env end_env after_env mem end_mem locals end_
 } where
   scalar_fits : (x : Name) (h : Held) → scalar c x ≡ Some h → listed x names ≡ false → ScalarFits w h (value_of after_env x) end_locals
   scalar_fits x h at free =
-      let f = fits.scalars x h at in
+      let f = fits.scalars x h at free in
       let p = scalar_stands c x h at in
       record {
         number = f.number;
         value = hold.values x h at free ∙ f.value;
         kind = f.kind;
-        form = known_same (length c.tops) h.form v w (fits.consistent.scalars_known p.place h p.at) agree ∙ f.form;
+        form = known_same (length c.tops) h.form v w (fits.known.scalars_known p.place h p.at) agree ∙ f.form;
         local = hold.locals_kept x h at free ∙ f.local;
       }
 
@@ -179,13 +180,13 @@ ends_fit names call v u w c d end_ env end_env after_env mem end_mem locals end_
       let k = o.before in
       let n = later c.clauses end_.clauses i k follow o.at in
       let l = n.clause in
-      let f = end_fits.clauses l.name l (clause_found end_ end_fits.consistent i l n.at) in
+      let f = end_fits.clauses l.name l (found_at name_of_clause end_.clauses (λ i j x y at_i at_j differ. (end_fits.known.clauses_apart i j x y at_i at_j differ).0) i l n.at) in
       let found : value_of after_env j.name ≡ value_of end_env l.name = hold.arrays i j l at n.at in
       let size : l.size ≡ j.size = n.same_one.size ∙ sym o.size in
       let param : l.param ≡ j.param = n.same_one.param ∙ sym o.param in
       let pointer : j.pointer ≡ l.pointer = o.pointer ∙ sym n.same_one.pointer in
       let length_local : l.length_local ≡ j.length_local = n.same_one.length_local ∙ sym o.length_local in
-      let known = fits.consistent.lengths_known i k o.at in
+      let known = fits.known.lengths_known i k o.at in
       let form : value_at w j.length ≡ value_at u l.length =
       ap (value_at w) o.length_same ∙ known_same (length c.tops) k.length v w known agree
       ∙ sym (known_same (length c.tops) k.length v u known at_end) ∙ ap (value_at u) (sym n.same_one.length_same) in
@@ -200,3 +201,12 @@ ends_fit names call v u w c d end_ env end_env after_env mem end_mem locals end_
         aligned = subst (λ (m : ℕ). call.pointers m % j.size ≡ 0) param (subst (λ (m : ℕ). call.pointers l.param % m ≡ 0) size f.aligned);
         ends = subst (λ (m : ℕ). call.pointers m + length (array_bytes (value_of end_env l.name)) ≤ 2 ^ 32) param f.ends;
       })
+
+pub ends_fit : (names : List Name) (call : Call) (v u w : ℕ → ℕ) (c d end_ : Context) (env end_env after_env : Env) (mem end_mem : Bytes) (locals end_locals : Locals)
+    → IsOver c d → Follow c.clauses end_.clauses → FitsBy call v c env mem locals → FitsBy call u end_ end_env end_mem end_locals
+    → Agree (length c.tops) v u → Agree (length c.tops) v w → ((s top : ℕ) → slice_get d.tops s ≡ Some top → w s ≤ top)
+    → EndsHold names c d end_ env end_env after_env locals end_locals
+    → FitsRest (among names) call w d after_env end_mem end_locals
+ends_fit names call v u w c d end_ env end_env after_env mem end_mem locals end_locals over follow fits end_fits =
+    ends_rest none names call v u w c d end_ env end_env after_env mem end_mem locals end_locals over follow
+    (rest_of_fits (among names) call v c env mem locals fits) (rest_of_fits none call u end_ end_env end_mem end_locals end_fits)

@@ -1,26 +1,19 @@
 -- What a context gains: with a further symbol, and with a further fact that holds, a state fits it that fitted it before.
-use Rattle.std.proofs.Common.{◌≡◌, ◌≢◌, refl, sym, ◌∙◌, ap, subst, arith, ℕ, zero, suc, ◌+◌, ◌<◌, ◌≤◌, nat_eq, Bool, true, false, List, [], ◌∷◌, ◌++◌, length, take, Option, Some, None, slice_get, if◌then◌else◌, ℤ, pos, ◌≤ℤ◌, ⊎_elim, inl, inr}
+use Rattle.std.proofs.Common.{◌≡◌, refl, sym, ◌∙◌, ap, subst, arith, ℕ, zero, suc, ◌<◌, ◌≤◌, nat_eq, Bool, true, false, List, [], ◌∷◌, ◌++◌, length, Option, Some, None, slice_get, if◌then◌else◌, ℤ, pos, ◌≤ℤ◌}
 use Rattle.std.specs.List.{find}
-use Rattle.std.proofs.lemmas.Bool.Decides.{nat_tests, eqb_tells}
+use Rattle.std.proofs.lemmas.Bool.Decides.{nat_tests}
 use Rattle.std.proofs.lemmas.Option.{slice_get_within}
 use Rattle.rup_base.specs.declared.arg.Arg.{Arg}
 use Rattle.rv_memory.specs.Ranges.{Bytes}
-use Rattle.side_certs.specs.LinearForm.{LinearForm, constant, symbol, plus, times, minus, value_at}
+use Rattle.side_certs.specs.LinearForm.{LinearForm, constant, symbol, plus, times, value_at}
 use Rattle.side_certs.proofs.laws.Coefficients.{Below, below_merge, below_times}
 use Rattle.side_certs.proofs.laws.Values.{value_same}
 use Rattle.model_syntax.specs.Environment.{Env, value_of}
-use Rattle.model_syntax.specs.Names.{Name, same}
-use Rattle.model_syntax.specs.Scope.{Scope, look_up}
-use Rattle.model_syntax.specs.declared.expr.Scalar.{Scalar}
-use Rattle.model_syntax.specs.declared.program.Param.{Param}
-use Rattle.model_syntax.specs.declared.scope.NameType.{NameType}
-use Rattle.model_syntax.specs.declared.scope.NameType.TheVariants.{Scalar as One, Array as Many}
 use Rattle.sym_heap.specs.declared.parts.Held.{Held}
 use Rattle.sym_heap.specs.declared.parts.Clause.{Clause}
-use Rattle.sym_heap.specs.Context.{Context, scalar, own, is_scalar, is_clause, with_top, with_fact}
+use Rattle.sym_heap.specs.Context.{Context, is_scalar, is_clause, with_top, with_fact}
 use Rattle.sym_heap.specs.Fits.{Locals, Call, Known, IsConsistent, ScalarFits, ClauseFits, FitsBy, Agree}
-use Rattle.sym_heap.specs.Scoped.{IsScoped, IsArrayOf}
-use Rattle.sym_heap.proofs.Fitting.{Somewhere, somewhere}
+use Rattle.sym_heap.proofs.Fitting.{somewhere}
 
 -- Lists with one more element.
 

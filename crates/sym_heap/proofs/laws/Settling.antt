@@ -169,12 +169,12 @@ abbrev pub TargetsApart : List Name → Context → Context → Type 0
 TargetsApart ys end_ c = (x y : Name) (h k : Held) → target ys end_ c x ≡ Some h → target ys end_ c y ≡ Some k → same x y ≡ false → h.local ≢ k.local
 
 -- the scalar that stands where another one does
-record Beside (o : Option Held) (h : Held) : Type 0 where
+pub record Beside (o : Option Held) (h : Held) : Type 0 where
   pub scalar_there : Held
   pub is : o ≡ Some scalar_there
   pub local : h.local ≡ scalar_there.local
 
-beside : (o p : Option Held) (h : Held) → o ≡ Some h → place_in o ≡ place_in p → Beside p h
+pub beside : (o p : Option Held) (h : Held) → o ≡ Some h → place_in o ≡ place_in p → Beside p h
 beside o None h is places = absurd (let bad : Some (h.local, h.kind) ≡ None = sym (ap place_in is) ∙ places in cc)
 beside o (Some k) h is places =
     let both : Some (h.local, h.kind) ≡ Some (k.local, k.kind) = sym (ap place_in is) ∙ places in

@@ -166,14 +166,18 @@ locals_set c l x before after s free set = record {
   lengths = λ i k m at is. set m (reserved_other l m c.reserved (free_reserved c l (Some x) free) (s.lengths_reserved i k m at is));
 }
 
--- a local that no scalar has and that is not reserved may be set, and the state fits as before
+-- a local that no scalar has and that is not reserved may be set: all that the context says is as before
+pub set_kept : (spared : Name → Bool) (c : Context) (l : ℕ) (before after : Locals) → IsConsistent c → is_free c l None ≡ true → SetAt l before after → LocalsKept spared c before after
+set_kept spared c l before after s free set = record {
+  scalars = λ i h at unspared. set h.local (leaves_none l h (free_scalars c l None free i h at));
+  pointers = λ i k at. set k.pointer (reserved_other l k.pointer c.reserved (free_reserved c l None free) (s.pointers_reserved i k at));
+  lengths = λ i k m at is. set m (reserved_other l m c.reserved (free_reserved c l None free) (s.lengths_reserved i k m at is));
+}
+
+-- and the state fits as before
 pub moved_locals : (call : Call) (v : ℕ → ℕ) (c : Context) (env : Env) (mem : Bytes) (l : ℕ) (before after : Locals) → is_free c l None ≡ true → SetAt l before after
     → FitsBy call v c env mem before → FitsBy call v c env mem after
-moved_locals call v c env mem l before after free set fits = fits_locals call v c env mem before after (record {
-  scalars = λ i h at spared. set h.local (leaves_none l h (free_scalars c l None free i h at));
-  pointers = λ i k at. set k.pointer (reserved_other l k.pointer c.reserved (free_reserved c l None free) (fits.consistent.pointers_reserved i k at));
-  lengths = λ i k m at is. set m (reserved_other l m c.reserved (free_reserved c l None free) (fits.consistent.lengths_reserved i k m at is));
-}) fits
+moved_locals call v c env mem l before after free set fits = fits_locals call v c env mem before after (set_kept none c l before after fits.consistent free set) fits
 
 -- More symbols.
 

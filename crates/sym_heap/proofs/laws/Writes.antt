@@ -32,7 +32,7 @@ chunks_length (n ∷ ns) =
     let four : length (to_le_bytes w32 n) ≡ 4 = refl in
     omega (arith, rest, joined, four)
 
-bytes_length : (size : ℕ) (found : Option Arg) → IsArray size found → length (array_bytes found) ≡ size * length (elements found)
+pub bytes_length : (size : ℕ) (found : Option Arg) → IsArray size found → length (array_bytes found) ≡ size * length (elements found)
 bytes_length size None is = absurd is
 bytes_length size (Some (arg.Word n)) is = absurd is
 bytes_length size (Some (arg.Bytes ns)) is = let product : 1 * length ns ≡ length ns = omega arith in sym (ap (λ s. s * length ns) is.0 ∙ product)

@@ -1,6 +1,6 @@
 //! Runs the rows of its files, each a call of a crate of the machine's floors and the answer that is wanted of it:
-//! instruction words both ways, steps of the machine, commands and their runs, and emitted code on the machine. It
-//! prints the name of a row with `ok`, or both answers.
+//! instruction words both ways, numbers in memory, steps of the machine, commands and their runs, and emitted code on
+//! the machine. It prints the name of a row with `ok`, or both answers.
 #![tactic(auto)]
 
 mod bytes;
@@ -9,6 +9,7 @@ mod emitted;
 mod fields;
 mod meaning;
 mod mnemonic;
+mod numbers;
 mod parts;
 mod registers;
 mod state;
@@ -20,7 +21,7 @@ use std::process::ExitCode;
 use std::{fs, io};
 
 /// The files with the rows, in the order in which they are run.
-const FILES: [&str; 4] = ["words", "steps", "commands", "emitted"];
+const FILES: [&str; 5] = ["words", "memory", "steps", "commands", "emitted"];
 
 fn main(rt: HostRuntime) -> ExitCode {
     match run(&rt) {
@@ -55,6 +56,7 @@ fn answer(alloc: Global, call: &str) -> Result<String, Fault> {
         b"decode" => words::decoded(alloc, rest),
         b"encode" => words::encoded(alloc, rest),
         b"field" => words::field(alloc, rest),
+        b"memory" => numbers::numbers(alloc, rest),
         b"step" => state::stepped(alloc, rest),
         b"run" => state::run(alloc, rest),
         b"print" => meaning::printed(alloc, rest),

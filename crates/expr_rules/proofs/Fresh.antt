@@ -16,7 +16,7 @@ use Rattle.bed_meaning.specs.Locals.{Vars}
 use Rattle.bed_meaning.specs.Value.{value}
 use Rattle.expr_rules.specs.Words.{give, plain, fresh_result}
 use Rattle.expr_rules.specs.Sound.{AllKnown, AllHold, HasLocals, ExprDone, Yields}
-use Rattle.expr_rules.proofs.Yields.{yields_fresh}
+use Rattle.expr_rules.proofs.laws.Yields.{yields_fresh}
 use Rattle.expr_rules.proofs.Came.{Kid, Right, Fact, Came, came_fresh, came_done, WithNumber}
 
 pub none_known : (n : ℕ) → AllKnown n []

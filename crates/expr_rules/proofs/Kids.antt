@@ -15,7 +15,7 @@ use Rattle.sym_heap.specs.Scoped.{IsScoped}
 use Rattle.expr_rules.specs.declared.output.ExprOut.{ExprOut}
 use Rattle.expr_rules.specs.Words.{Rule, ◌>>=◌, give, Judged, one_kid, two_kids}
 use Rattle.expr_rules.specs.Sound.{ExprDone, Yields, IsSound}
-use Rattle.expr_rules.proofs.Yields.{yields_then}
+use Rattle.expr_rules.proofs.laws.Yields.{yields_then}
 use Rattle.expr_rules.proofs.Came.{Kid, Came, Of, And, kid_of, kid_more, came_one, came_on, locals_back}
 
 abbrev pub SoundKid : Judged → Type 0

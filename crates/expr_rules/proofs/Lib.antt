@@ -1,11 +1,16 @@
+pub mod Below
 pub mod Came
 pub mod Codes
+pub mod Division
+pub mod Reading
 pub mod Flags
 pub mod Folded
 pub mod Fresh
 pub mod Kids
 pub mod Rows
 pub mod Sizes
+pub mod Small
+pub mod SmallRows
 pub mod Sums
-pub mod Yields
+pub mod Times
 pub mod sound

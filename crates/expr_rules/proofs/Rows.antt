@@ -1,6 +1,7 @@
 -- Each node of a derivation is sound where its kids are, and so is the whole tree.
-use Rattle.std.proofs.Common.{◌≡◌, refl, sym, ◌∙◌, ap, subst, ℕ, ◌%◌, Bool, true, false, List, [], ◌∷◌, map, Ok, Err}
+use Rattle.std.proofs.Common.{◌≡◌, refl, sym, ◌∙◌, ap, subst, ℕ, ◌%◌, Bool, true, false, List, [], ◌∷◌, map, is_some, Ok, Err}
 use Rattle.std.proofs.lemmas.Bool.{leb-true}
+use Rattle.rup_base.specs.Name.{is_name}
 use Rattle.model_syntax.specs.declared.expr.Op.{Op}
 use Rattle.model_syntax.specs.declared.expr.Op.TheVariants as op
 use Rattle.model_syntax.specs.declared.expr.Expr.{Expr, Expr-F, out-Expr, map-Expr}
@@ -12,9 +13,9 @@ use Rattle.model_syntax.specs.declared.program.Param.{Param}
 use Rattle.model_syntax.specs.Environment.{Env}
 use Rattle.model_syntax.specs.Operation.{apply}
 use Rattle.model_syntax.specs.ExprType.{Typing, type_of, type_step, wanted, both_wanted, no_word}
-use Rattle.model_syntax.specs.Formed.{expr_formed, expr_formed_step}
+use Rattle.model_syntax.specs.Formed.{expr_formed, expr_formed_step, numbers_formed}
 use Rattle.model_syntax.specs.Scope.{Scope, look_up, element_in}
-use Rattle.model_syntax.specs.Spelling.{expr_spellable, expr_spellable_step}
+use Rattle.model_syntax.specs.Spelling.{expr_spellable, expr_spellable_step, is_table}
 use Rattle.model_syntax.specs.Value.{eval, eval_step}
 use Rattle.model_syntax.proofs.laws.Answered.{first_answered, answer_is}
 use Rattle.model_syntax.proofs.laws.Arrays.{and_parts}
@@ -28,8 +29,8 @@ use Rattle.deriv_tree.specs.declared.rule.Rule.TheVariants as rule
 use Rattle.deriv_tree.specs.declared.tree.Step.{Step}
 use Rattle.deriv_tree.specs.declared.tree.ExprNode.{ExprNode, ExprNode-F, ind-ExprNode, map-ExprNode, roll-ExprNode, fold-roll-ExprNode}
 use Rattle.expr_rules.specs.declared.output.ExprOut.{ExprOut}
-use Rattle.expr_rules.specs.Words.{Rule, ◌>>=◌, need, counted, has_counts, are_none, Judged}
-use Rattle.expr_rules.specs.Row.{is_add, is_sub, is_and, fits, certs_of, binary, low, parts, node_row, judged_step, judged}
+use Rattle.expr_rules.specs.Words.{Rule, ◌>>=◌, need, counted, has_counts, are_none, Judged, one_kid}
+use Rattle.expr_rules.specs.Row.{is_add, is_sub, is_mul, is_and, is_shl, is_remu, fits, certs_of, binary, low, parts, node_row, judged_step, judged}
 use Rattle.expr_rules.specs.Sound.{ExprDone, Yields, IsSound, InstancesAreSound}
 use Rattle.expr_rules.specs.rules.Lit as lit
 use Rattle.expr_rules.specs.rules.Var as var
@@ -39,7 +40,9 @@ use Rattle.expr_rules.specs.rules.Word as word
 use Rattle.expr_rules.specs.rules.Cmp as cmp
 use Rattle.expr_rules.specs.rules.Both as both
 use Rattle.expr_rules.specs.rules.Either as either
-use Rattle.expr_rules.proofs.Yields.{yields_need, yields_found}
+use Rattle.expr_rules.specs.rules.Get as element_of
+use Rattle.expr_rules.specs.rules.Tab as entry_of
+use Rattle.expr_rules.proofs.laws.Yields.{yields_need, yields_found}
 use Rattle.expr_rules.proofs.Came.{came_start}
 use Rattle.expr_rules.proofs.Kids.{SoundKid, SoundKids, Pair, yields_one, yields_two}
 use Rattle.expr_rules.proofs.sound.Lit as lit_holds
@@ -48,7 +51,11 @@ use Rattle.expr_rules.proofs.sound.Len as len_holds
 use Rattle.expr_rules.proofs.sound.Op as op_holds
 use Rattle.expr_rules.proofs.sound.Add as add_holds
 use Rattle.expr_rules.proofs.sound.Sub as sub_holds
+use Rattle.expr_rules.proofs.sound.Mulk as mulk_holds
 use Rattle.expr_rules.proofs.sound.Mask as mask_holds
+use Rattle.expr_rules.proofs.sound.Shift as shift_holds
+use Rattle.expr_rules.proofs.sound.Remk as remk_holds
+use Rattle.expr_rules.proofs.sound.Divk as divk_holds
 use Rattle.expr_rules.proofs.sound.Not as not_holds
 use Rattle.expr_rules.proofs.sound.Word as word_holds
 use Rattle.expr_rules.proofs.sound.Byte as byte_holds
@@ -56,6 +63,8 @@ use Rattle.expr_rules.proofs.sound.Cut as cut_holds
 use Rattle.expr_rules.proofs.sound.Cmp as cmp_holds
 use Rattle.expr_rules.proofs.sound.Both as both_holds
 use Rattle.expr_rules.proofs.sound.Either as either_holds
+use Rattle.expr_rules.proofs.sound.Get as get_holds
+use Rattle.expr_rules.proofs.sound.Tab as tab_holds
 
 -- an expression from its parts
 abbrev evaluated : Expr-F Expr → Env → ℕ
@@ -91,8 +100,17 @@ add_only = by_op (λ o. is_add o ≡ true → o ≡ op.Add) (λ is. refl) other_
 sub_only : (o : Op) → is_sub o ≡ true → o ≡ op.Sub
 sub_only = by_op (λ o. is_sub o ≡ true → o ≡ op.Sub) other_op (λ is. refl) other_op other_op other_op other_op other_op other_op other_op other_op other_op other_op
 
+mul_only : (o : Op) → is_mul o ≡ true → o ≡ op.Mul
+mul_only = by_op (λ o. is_mul o ≡ true → o ≡ op.Mul) other_op other_op (λ is. refl) other_op other_op other_op other_op other_op other_op other_op other_op other_op
+
 and_only : (o : Op) → is_and o ≡ true → o ≡ op.And
 and_only = by_op (λ o. is_and o ≡ true → o ≡ op.And) other_op other_op other_op other_op other_op other_op (λ is. refl) other_op other_op other_op other_op other_op
+
+shl_only : (o : Op) → is_shl o ≡ true → o ≡ op.Shl
+shl_only = by_op (λ o. is_shl o ≡ true → o ≡ op.Shl) other_op other_op other_op other_op other_op other_op other_op other_op other_op (λ is. refl) other_op other_op
+
+remu_only : (o : Op) → is_remu o ≡ true → o ≡ op.Remu
+remu_only = by_op (λ o. is_remu o ≡ true → o ≡ op.Remu) other_op other_op other_op other_op other_op (λ is. refl) other_op other_op other_op other_op other_op other_op
 
 no_word_is : (found_type : Typing) (t : Scalar) → no_word found_type ≡ Ok t → found_type ≡ Ok t
 no_word_is (Err why) t is = absurd (cc)
@@ -113,10 +131,10 @@ module _ (step : Step) (kids : List Judged) (sound : SoundKids kids) (at : ℕ) 
   binary_sound o f g x y pq mid rule.ELit fit k = tt
   binary_sound o f g x y pq mid rule.EVar fit k = tt
   binary_sound o f g x y pq mid rule.ELen fit k = tt
-  binary_sound o f g x y pq mid rule.EMulk fit k = tt
-  binary_sound o f g x y pq mid rule.EShift fit k = tt
-  binary_sound o f g x y pq mid rule.ERemk fit k = tt
-  binary_sound o f g x y pq mid rule.EDivk fit k = tt
+  binary_sound o f g x y pq mid rule.EMulk fit k = subst (Bin rule.EMulk f g pq mid) (sym (mul_only o fit)) (mulk_holds.sound ps scope f g c pq mid k step.certs at)
+  binary_sound o f g x y pq mid rule.EShift fit k = subst (Bin rule.EShift f g pq mid) (sym (shl_only o fit)) (shift_holds.sound ps scope f g c pq mid k step.certs at)
+  binary_sound o f g x y pq mid rule.ERemk fit k = subst (Bin rule.ERemk f g pq mid) (sym (remu_only o fit)) (remk_holds.sound ps scope f g c pq mid k at)
+  binary_sound o f g x y pq mid rule.EDivk fit k = divk_holds.sound ps scope f g c pq mid k at o
   binary_sound o f g x y pq mid rule.ECmp fit k = tt
   binary_sound o f g x y pq mid rule.ENot fit k = tt
   binary_sound o f g x y pq mid rule.EBoth fit k = tt
@@ -234,8 +252,26 @@ module _ (step : Step) (kids : List Judged) (sound : SoundKids kids) (at : ℕ) 
       as_type (evaluated (e.ToByte x)) t Byte (λ d. parts step kids at (e.ToByte x) d) (answer_is Byte t found_type.1.1)
       (yields_one (ExprDone ps scope (evaluated (e.ToByte x)) Byte c) ps scope c consistent scoped at kids sound x Word
       (record { formed = good.formed; spelled = good.spelled; typed = typed.0 }) (λ p. low step.rule step.certs at p) (λ p mid d. low_sound (eval x) p mid step.rule d))
-  parts_sound (e.Get a i) t good fit = tt
-  parts_sound (e.Tab u ns i) t good fit = tt
+  parts_sound (e.Get a i) t good fit =
+      let found_type = first_answered (element_in (look_up scope a)) _ t good.typed in
+      let index = first_answered (wanted Word (type_of i scope)) _ t found_type.1.1 in
+      let typed = wanted_is Word (type_of i scope) index.0 index.1.0 in
+      let formed = and_parts (is_name a) (expr_formed i) good.formed in
+      as_type (evaluated (e.Get a i)) t found_type.0 (λ d. parts step kids at (e.Get a i) d) (answer_is found_type.0 t index.1.1)
+      (yields_need (ExprDone ps scope (evaluated (e.Get a i)) found_type.0 c) c (is_some (own c a)) at 4 (λ _. one_kid kids at i >>= (λ p. element_of.after step.certs at a p))
+      (λ named. yields_one (ExprDone ps scope (evaluated (e.Get a i)) found_type.0 c) ps scope c consistent scoped at kids sound i Word
+      (record { formed = formed.1; spelled = good.spelled; typed = typed.0 }) (λ p. element_of.after step.certs at a p)
+      (λ p mid d. get_holds.sound ps scope (eval i) c p mid d step.certs at a found_type.0 found_type.1.0)))
+  parts_sound (e.Tab u ns i) t good fit =
+      let index = first_answered (wanted Word (type_of i scope)) _ t good.typed in
+      let typed = wanted_is Word (type_of i scope) index.0 index.1.0 in
+      let formed = and_parts (numbers_formed ns) (expr_formed i) good.formed in
+      let spelled = and_parts (is_table u ns) (expr_spellable i) good.spelled in
+      as_type (evaluated (e.Tab u ns i)) t u (λ d. parts step kids at (e.Tab u ns i) d) (answer_is u t index.1.1)
+      (yields_need (ExprDone ps scope (evaluated (e.Tab u ns i)) u c) c (entry_of.is_small ns) at 4 (λ _. one_kid kids at i >>= (λ p. entry_of.after step.certs at u ns p))
+      (λ small. yields_one (ExprDone ps scope (evaluated (e.Tab u ns i)) u c) ps scope c consistent scoped at kids sound i Word
+      (record { formed = formed.1; spelled = spelled.1; typed = typed.0 }) (λ p. entry_of.after step.certs at u ns p)
+      (λ p mid d. tab_holds.sound ps scope (eval i) c p mid d step.certs at u ns formed.0 spelled.0 small)))
 
 node_sound : (turn : Turn) (step : Step) (kids : List Judged) → SoundKids kids → (at : ℕ) (x : Expr) → IsSound x (node_row turn step kids at x)
 node_sound turn step kids sound at x ps scope t c consistent scoped formed spelled typed =

@@ -23,7 +23,11 @@ use Rattle.expr_rules.specs.rules.Len as len
 use Rattle.expr_rules.specs.rules.Op as operation
 use Rattle.expr_rules.specs.rules.Add as add
 use Rattle.expr_rules.specs.rules.Sub as sub
+use Rattle.expr_rules.specs.rules.Mulk as mulk
 use Rattle.expr_rules.specs.rules.Mask as mask
+use Rattle.expr_rules.specs.rules.Shift as shift
+use Rattle.expr_rules.specs.rules.Remk as remk
+use Rattle.expr_rules.specs.rules.Divk as divk
 use Rattle.expr_rules.specs.rules.Cmp as cmp
 use Rattle.expr_rules.specs.rules.Not as negation
 use Rattle.expr_rules.specs.rules.Both as both
@@ -31,6 +35,8 @@ use Rattle.expr_rules.specs.rules.Either as either
 use Rattle.expr_rules.specs.rules.Word as word
 use Rattle.expr_rules.specs.rules.Byte as byte
 use Rattle.expr_rules.specs.rules.Cut as cut
+use Rattle.expr_rules.specs.rules.Get as get
+use Rattle.expr_rules.specs.rules.Tab as tab
 
 abbrev pub is_add : Op → Bool
 is_add op.Add = true
@@ -40,9 +46,27 @@ abbrev pub is_sub : Op → Bool
 is_sub op.Sub = true
 is_sub o = false
 
+abbrev pub is_mul : Op → Bool
+is_mul op.Mul = true
+is_mul o = false
+
 abbrev pub is_and : Op → Bool
 is_and op.And = true
 is_and o = false
+
+abbrev pub is_shl : Op → Bool
+is_shl op.Shl = true
+is_shl o = false
+
+abbrev pub is_remu : Op → Bool
+is_remu op.Remu = true
+is_remu o = false
+
+-- a division, or a shift to the right, which is one
+abbrev pub is_quotient : Op → Bool
+is_quotient op.Divu = true
+is_quotient op.Shr = true
+is_quotient o = false
 
 -- the rule is for the expression
 abbrev pub fits : deriv.Rule → Expr-F Expr → Bool
@@ -52,7 +76,11 @@ fits rule.ELen (e.Length a) = true
 fits rule.EOp (e.Bin o x y) = true
 fits rule.EAdd (e.Bin o x y) = is_add o
 fits rule.ESub (e.Bin o x y) = is_sub o
+fits rule.EMulk (e.Bin o x y) = is_mul o
 fits rule.EMask (e.Bin o x y) = is_and o
+fits rule.EShift (e.Bin o x y) = is_shl o
+fits rule.ERemk (e.Bin o x y) = is_remu o
+fits rule.EDivk (e.Bin o x y) = is_quotient o
 fits rule.ECmp (e.Test test x y) = true
 fits rule.ENot (e.Not x) = true
 fits rule.EBoth (e.Both x y) = true
@@ -60,13 +88,19 @@ fits rule.EEither (e.Either x y) = true
 fits rule.EWord (e.ToWord x) = true
 fits rule.EByte (e.ToByte x) = true
 fits rule.ECut (e.ToByte x) = true
+fits rule.EGet (e.Get a i) = true
+fits rule.ETab (e.Tab t ns i) = true
 fits _ _ = false
 
 -- the number of certificates
 abbrev pub certs_of : deriv.Rule → ℕ
 certs_of rule.EAdd = 1
 certs_of rule.ESub = 1
+certs_of rule.EMulk = 1
+certs_of rule.EShift = 1
 certs_of rule.EByte = 1
+certs_of rule.EGet = 1
+certs_of rule.ETab = 1
 certs_of _ = 0
 
 -- a rule of operations, after its kids
@@ -74,7 +108,11 @@ abbrev pub binary : deriv.Rule → Op → List Cert → ℕ → ExprOut → Expr
 binary rule.EOp o certs at p q = operation.after at o p q
 binary rule.EAdd o certs at p q = add.after certs at p q
 binary rule.ESub o certs at p q = sub.after certs at p q
+binary rule.EMulk o certs at p q = mulk.after certs at p q
 binary rule.EMask o certs at p q = mask.after at p q
+binary rule.EShift o certs at p q = shift.after certs at p q
+binary rule.ERemk o certs at p q = remk.after at p q
+binary rule.EDivk o certs at p q = divk.after at o p q
 binary _ o certs at p q = refuse at 1
 
 -- a rule of the bytes of words, after its kid
@@ -120,7 +158,14 @@ parts step kids at (e.ToWord x) = do
 parts step kids at (e.ToByte x) = do
   p ← one_kid kids at x
   low step.rule step.certs at p
-parts step kids at _ = refuse at 1
+parts step kids at (e.Get a i) = do
+  _ ← get.before at a
+  p ← one_kid kids at i
+  get.after step.certs at a p
+parts step kids at (e.Tab t ns i) = do
+  _ ← tab.before at ns
+  p ← one_kid kids at i
+  tab.after step.certs at t ns p
 
 abbrev pub node_row : Turn → Step → List Judged → ℕ → Expr → Rule ExprOut
 node_row turn step kids at x = do

@@ -7,7 +7,10 @@ ghost use Rattle.expr_rules.specs.Words as words;
 ghost use Rattle.expr_rules.specs.Row as spec;
 
 use crate::output::ExprOut;
-use crate::rules::{add, both, byte, cmp, cut, either, len, lit, mask, not, op, sub, var, word};
+use crate::rules::{
+    add, both, byte, cmp, cut, divk, either, get, len, lit, mask, mulk, not, op, remk, shift, sub,
+    tab, var, word,
+};
 use crate::words::{counted, need, no_instance};
 use deriv_tree::{ExprNode, Rule, Step};
 use equations::Book;
@@ -27,13 +30,19 @@ fn fits(rule: Rule, e: &Expr) -> bool
         (Rule::EOp, Expr::Bin(_, _, _)) => true,
         (Rule::EAdd, Expr::Bin(op, _, _)) => matches!(op, Op::Add),
         (Rule::ESub, Expr::Bin(op, _, _)) => matches!(op, Op::Sub),
+        (Rule::EMulk, Expr::Bin(op, _, _)) => matches!(op, Op::Mul),
         (Rule::EMask, Expr::Bin(op, _, _)) => matches!(op, Op::And),
+        (Rule::EShift, Expr::Bin(op, _, _)) => matches!(op, Op::Shl),
+        (Rule::ERemk, Expr::Bin(op, _, _)) => matches!(op, Op::Remu),
+        (Rule::EDivk, Expr::Bin(op, _, _)) => matches!(op, Op::Divu | Op::Shr),
         (Rule::ECmp, Expr::Test(_, _, _)) => true,
         (Rule::ENot, Expr::Not(_)) => true,
         (Rule::EBoth, Expr::Both(_, _)) => true,
         (Rule::EEither, Expr::Either(_, _)) => true,
         (Rule::EWord, Expr::ToWord(_)) => true,
         (Rule::EByte | Rule::ECut, Expr::ToByte(_)) => true,
+        (Rule::EGet, Expr::Get(_, _)) => true,
+        (Rule::ETab, Expr::Tab(_, _, _)) => true,
         _ => false,
     }
 }
@@ -43,7 +52,13 @@ fn certs_of(rule: Rule) -> usize
     ensures { result ≡ spec.certs_of rule }
 {
     match rule {
-        Rule::EAdd | Rule::ESub | Rule::EByte => 1,
+        Rule::EAdd
+        | Rule::ESub
+        | Rule::EMulk
+        | Rule::EShift
+        | Rule::EByte
+        | Rule::EGet
+        | Rule::ETab => 1,
         _ => 0,
     }
 }
@@ -64,7 +79,11 @@ fn binary(
         Rule::EOp => op::after(ctx, at, op, p, q),
         Rule::EAdd => add::after(ctx, at, certs, p, q),
         Rule::ESub => sub::after(ctx, at, certs, p, q),
+        Rule::EMulk => mulk::after(ctx, at, certs, p, q),
         Rule::EMask => mask::after(ctx, at, p, q),
+        Rule::EShift => shift::after(ctx, at, certs, p, q),
+        Rule::ERemk => remk::after(ctx, at, p, q),
+        Rule::EDivk => divk::after(ctx, at, op, p, q),
         _ => Err(no_instance(at, 1)),
     }
 }
@@ -193,7 +212,23 @@ fn parts<B: Book>(
             let (p, q) = two_kids(ctx, next, at, kids, x, y, book)?;
             binary(ctx, at, step.rule, *op, step.certs.as_slice(), p, q)
         }
-        _ => Err(no_instance(at, 1)),
+        Expr::Get(a, x) => {
+            get::before(ctx, at, a)?;
+            let p = one_kid(ctx, next, at, kids, x, book)?;
+            get::after(ctx, at, step.certs.as_slice(), a, p)
+        }
+        Expr::Tab(scalar, entries, x) => {
+            tab::before(at, entries.as_slice())?;
+            let p = one_kid(ctx, next, at, kids, x, book)?;
+            tab::after(
+                ctx,
+                at,
+                step.certs.as_slice(),
+                *scalar,
+                entries.as_slice(),
+                p,
+            )
+        }
     }
 }
 

@@ -1,9 +1,10 @@
 //! The words that rules are made of.
-ghost use Rattle.std.specs.Prelude.{◌≡◌, ◌++◌, IfOk};
+ghost use Rattle.std.specs.Prelude.{◌≡◌, ◌≤◌, ◌++◌, neg_ℤ, true, IfOk, IfSome};
 ghost use Rattle.rup_base.specs.Answers.{Answers, AnswersWith};
 ghost use Rattle.rup_base.specs.declared.fail.Fail.TheVariants as fail;
 ghost use Rattle.rup_base.specs.declared.refusal.Refusal.TheVariants as refusal;
 ghost use Rattle.bed_syntax.specs.declared.expression.BExpr.TheVariants as b;
+ghost use Rattle.side_certs.specs.LinearForm.{is_small};
 ghost use Rattle.expr_rules.specs.Words as spec;
 
 use crate::output::ExprOut;
@@ -128,7 +129,8 @@ pub fn shown(ctx: &Ctx, at: u32, certs: &[Cert], goal: Option<Form>) -> Result<(
 
 /// The number that a form is, where it is one from `low` to `high`.
 pub fn number_in(low: u32, high: u32, form: &Form) -> Option<u32>
-    ensures { result ≡ spec.number_in low high form.now }
+    ensures number { result ≡ spec.number_in low high form.now }
+    ensures range { IfSome result (λ n. (low ≤ n) × (n ≤ high)) }
 {
     match number_of(form) {
         None => None,
@@ -137,7 +139,8 @@ pub fn number_in(low: u32, high: u32, form: &Form) -> Option<u32>
 }
 
 fn in_range(low: u32, high: u32, k: i64) -> Option<u32>
-    ensures { result ≡ spec.in_range low high k }
+    ensures number { result ≡ spec.in_range low high k }
+    ensures range { IfSome result (λ n. (low ≤ n) × (n ≤ high)) }
 {
     if i64::from(low) <= k && k <= i64::from(high) {
         Some(k.unsigned_abs() as u32)
@@ -148,13 +151,22 @@ fn in_range(low: u32, high: u32, k: i64) -> Option<u32>
 
 /// The number that a form is.
 pub fn number_of(form: &Form) -> Option<i64>
-    ensures { result ≡ spec.number_of form.now }
+    ensures number { result ≡ spec.number_of form.now }
+    ensures small { IfSome result (λ k. is_small k ≡ true) }
 {
     if form.terms() == 0 {
         Some(form.constant_part())
     } else {
         None
     }
+}
+
+/// The number with the other sign.
+pub fn opposite(k: i64) -> i64
+    requires { is_small k ≡ true }
+    ensures { result ≡ neg_ℤ k }
+{
+    -k
 }
 
 /// The forms of both lists.

@@ -21,7 +21,7 @@ use Rattle.expr_rules.proofs.Came.{Kid, Of, And, Fact, WithNumber, kid_more, ext
 use Rattle.expr_rules.proofs.Flags.{and_flags, flag_small, flag_true, each_joined}
 use Rattle.expr_rules.proofs.Fresh.{next_known, none_known, none_hold}
 use Rattle.expr_rules.proofs.Kids.{Pair}
-use Rattle.expr_rules.proofs.Yields.{yields_fresh}
+use Rattle.expr_rules.proofs.laws.Yields.{yields_fresh}
 
 pub sound : (ps : List Param) (scope : Scope) (f g : Env → ℕ) (before : Context) (pq : ExprOut × ExprOut) (mid : Context) → Pair ps scope f g Flag Flag before pq mid → (at : ℕ)
     → Yields (ExprDone ps scope (λ env. flag (is_true (f env) && is_true (g env))) Flag before) (after at pq.0 pq.1 mid)

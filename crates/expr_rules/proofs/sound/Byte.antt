@@ -15,7 +15,7 @@ use Rattle.expr_rules.specs.rules.Byte.{after}
 use Rattle.expr_rules.proofs.Came.{Of, came_one, came_done}
 use Rattle.expr_rules.proofs.Fresh.{plain_kid, plain_right}
 use Rattle.expr_rules.proofs.Sums.{value_sum}
-use Rattle.expr_rules.proofs.Yields.{yields_shown}
+use Rattle.expr_rules.proofs.laws.Yields.{yields_shown}
 
 pub sound : (ps : List Param) (scope : Scope) (f : Env → ℕ) (before : Context) (p : ExprOut) (mid : Context) → ExprDone ps scope f Word before p mid → (certs : List Cert) (at : ℕ)
     → Yields (ExprDone ps scope (λ env. f env % 256) Byte before) (after certs at p mid)

@@ -27,7 +27,7 @@ use Rattle.expr_rules.proofs.Flags.{same_test, flag_small, flag_true, each_more,
 use Rattle.expr_rules.proofs.Fresh.{next_known}
 use Rattle.expr_rules.proofs.Kids.{Pair}
 use Rattle.expr_rules.proofs.Sums.{value_sum, known_minus}
-use Rattle.expr_rules.proofs.Yields.{yields_fresh}
+use Rattle.expr_rules.proofs.laws.Yields.{yields_fresh}
 
 -- the facts of a comparison of two forms
 record FactsOf (n : ℕ) (t : Cmp) (F G : LinearForm) (fs : Facts) : Type 0 where

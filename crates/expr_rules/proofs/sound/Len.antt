@@ -22,7 +22,7 @@ use Rattle.expr_rules.proofs.Codes.{value_lit, value_var, locals_lit, locals_var
 use Rattle.expr_rules.proofs.Came.{Nothing, Came, came_done}
 use Rattle.expr_rules.proofs.Fresh.{plain_kid, plain_right}
 use Rattle.expr_rules.proofs.Sums.{NumberIn, number_in_is}
-use Rattle.expr_rules.proofs.Yields.{yields_found}
+use Rattle.expr_rules.proofs.laws.Yields.{yields_found}
 
 -- the code is the local of the length, or its number
 data IsLengthCode (k : Clause) (e : BExpr) : Type 0 where

@@ -14,7 +14,7 @@ use Rattle.expr_rules.specs.rules.Lit.{after}
 use Rattle.expr_rules.proofs.Codes.{value_lit, locals_lit}
 use Rattle.expr_rules.proofs.Came.{Nothing, Came, came_done}
 use Rattle.expr_rules.proofs.Fresh.{plain_kid, plain_right}
-use Rattle.expr_rules.proofs.Yields.{yields_made}
+use Rattle.expr_rules.proofs.laws.Yields.{yields_made}
 
 pub sound : (ps : List Param) (scope : Scope) (c : Context) → Came Nothing ps scope c c → (at n : ℕ) → n ≤ 4294967295 → Yields (ExprDone ps scope (λ env. n) Word c) (after at n c)
 sound ps scope c came at n small =

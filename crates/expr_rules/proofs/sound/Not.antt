@@ -18,7 +18,7 @@ use Rattle.expr_rules.specs.rules.Not.{after}
 use Rattle.expr_rules.proofs.Codes.{value_lit, value_bin, locals_lit, locals_bin}
 use Rattle.expr_rules.proofs.Came.{Of, came_one, came_done}
 use Rattle.expr_rules.proofs.Sums.{value_sum, known_less}
-use Rattle.expr_rules.proofs.Yields.{yields_made}
+use Rattle.expr_rules.proofs.laws.Yields.{yields_made}
 
 -- a flag and the other one
 record Other (n : ℕ) : Type 0 where

@@ -23,7 +23,7 @@ use Rattle.expr_rules.proofs.Came.{Of, And, came_done}
 use Rattle.expr_rules.proofs.Fresh.{plain_kid, plain_right}
 use Rattle.expr_rules.proofs.Kids.{Pair}
 use Rattle.expr_rules.proofs.Sums.{known_minus}
-use Rattle.expr_rules.proofs.Yields.{yields_shown, yields_made}
+use Rattle.expr_rules.proofs.laws.Yields.{yields_shown, yields_made}
 
 pub sound : (ps : List Param) (scope : Scope) (f g : Env → ℕ) (before : Context) (pq : ExprOut × ExprOut) (mid : Context) → Pair ps scope f g Word Word before pq mid → (certs : List Cert) (at : ℕ)
     → Yields (ExprDone ps scope (λ env. apply op.Sub (f env) (g env)) Word before) (after certs at pq.0 pq.1 mid)

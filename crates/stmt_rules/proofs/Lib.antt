@@ -1,0 +1,9 @@
+pub mod Blocks
+pub mod Flat
+pub mod Folded
+pub mod Sequence
+pub mod Sizes
+pub mod Small
+pub mod Trees
+pub mod Walks
+pub mod sound

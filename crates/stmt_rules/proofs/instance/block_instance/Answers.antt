@@ -1,0 +1,5 @@
+use Rattle.stmt_rules.proofs.Sizes.{block_size_is}
+use Rattle.stmt_rules.proofs.instance.block_instance.Goals as goal
+
+pub walk-requires : goal.walk-requires
+walk-requires g c = rw (block_size_is (g.B.Book.turn c.args.book.now) c.args.block.now) c.requires

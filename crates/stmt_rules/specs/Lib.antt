@@ -1,0 +1,6 @@
+pub mod Bound
+pub mod Row
+pub mod Small
+pub mod Sound
+pub mod Words
+pub mod rules

@@ -1,0 +1,7 @@
+mod Answered
+mod Costs
+mod Fulfilled
+mod Memory
+mod Results
+mod Rooms
+mod Taken

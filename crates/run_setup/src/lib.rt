@@ -10,7 +10,7 @@ mod loading;
 mod reading;
 mod results;
 
-pub use digits::put_word;
+pub use digits::{behind, put_word};
 pub use judging::{judge_size, symbol_values};
 pub use laws::{good_is_served, judged_is_met, loaded_is_ready, returned_is_machine};
 pub use loading::{RETURN_ADDRESS, load};

@@ -1,4 +1,5 @@
-//! The top call answers where memory is left: each command on the sum of two words, as cases of this program.
+//! The top call answers where memory is left: each command on the sum of two words or on a
+//! small image, as cases of this program.
 use crate::answer::found_by;
 use crate::files::Held;
 use row_cases::read_case;
@@ -28,6 +29,13 @@ file m text (model sum (params (x word) (y word)) (require) (do (let z (add x y)
 = status 0
 = out 1 0000002a\\n";
 
+const SHOW: &str = "the image is listed
+words show i
+file i hex 52555031 01000000 44000000 40000000 04000000 00000000 40000000 00000000
+more hex 00000000 00000000 00000000 01000000 ffffffff ffffffff 0a000000 00000000 6f000000
+= status 0
+= out 1 image 1 entry 64 stack 0 code 4 tables 0 bound 10\\n00000040 0000006f\\n";
+
 /// Whether a case has its wanted answer, where these files are held.
 fn holds(alloc: Global, held: &mut Held, text: &str) -> Result<bool, Fail> {
     let mut disk = MemFiles::new(List::new(alloc), List::new(alloc));
@@ -53,5 +61,12 @@ fn replay_and_run_answer(rt: HostRuntime) -> Result<(), Fail> {
 fn eval_answers(rt: HostRuntime) -> Result<(), Fail> {
     let mut held = Vec::new(rt.alloc());
     assert_eq!(rt; holds(rt.alloc(), &mut held, EVAL)?, true);
+    Ok(())
+}
+
+#[test]
+fn show_answers(rt: HostRuntime) -> Result<(), Fail> {
+    let mut held = Vec::new(rt.alloc());
+    assert_eq!(rt; holds(rt.alloc(), &mut held, SHOW)?, true);
     Ok(())
 }

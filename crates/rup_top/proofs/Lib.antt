@@ -1,8 +1,7 @@
-pub mod Scripts
-pub mod Taking
-pub mod Runs
-pub mod Judging
-pub mod Ways
+pub mod Steps
+pub mod Ends
 pub mod Told
-pub mod Headline
-pub mod Served
+pub mod Held
+pub mod shown
+pub mod Dispatched
+pub mod Agreeing

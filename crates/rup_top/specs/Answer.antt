@@ -4,9 +4,6 @@ use Rattle.std.specs.Fmt.{decimal}
 use Rattle.rup_base.specs.RefusalLine.{line_of}
 use Rattle.rup_base.specs.declared.refusal.Refusal.{Refusal}
 use Rattle.rup_base.specs.declared.refusal.Refusal.TheVariants.{Stuck}
-use Rattle.rv_machine.specs.Causes.{cause_text}
-use Rattle.rv_machine.specs.declared.cause.Cause.{Cause}
-use Rattle.run_setup.specs.Digits.{eight_digits}
 use Rattle.rup_top.specs.declared.answer.Answer.{Answer}
 
 -- a text and a line feed, which is 10
@@ -38,13 +35,3 @@ read_fault place = record { status = 3; out = []; note = line (codes "read fault
 -- a run that trapped or had no steps left
 abbrev pub unfinished : List ℕ → Answer
 unfinished text = record { status = 7; out = []; note = line text }
-
-abbrev pub returned_line : ℕ → ℕ → List ℕ
-returned_line steps bound = line (codes "run: returned in " ++ decimal steps ++ codes " steps, bound " ++ decimal bound)
-
--- the program counter is eight digits
-abbrev pub trapped_text : Cause → ℕ → ℕ → List ℕ
-trapped_text cause pc steps = codes "trapped " ++ cause_text cause ++ codes " " ++ eight_digits pc ++ codes " " ++ decimal steps
-
-abbrev pub out_of_steps_text : ℕ → List ℕ
-out_of_steps_text steps = codes "out of steps " ++ decimal steps

@@ -1,17 +1,59 @@
--- A request as the command that it is.
-use Rattle.std.specs.Prelude.{◌≤◌, length, map, drop, string_bytes, ⊤}
-use Rattle.rup_top.specs.declared.words.Request.{Request}
-use Rattle.rup_top.specs.declared.words.Request.TheVariants as request
-use Rattle.rup_top.specs.Script.{Command, usage, replay, run, eval}
+-- The words of a command line, and the command that they name.
+use Rattle.std.specs.Prelude.{ℕ, nat_eq, nat_le, List, [], ◌∷◌, Option, Some, None, option_and_then, codes, bytes_eq, if◌then◌else◌}
+use Rattle.rup_base.specs.Number.{numeral}
+use Rattle.run_setup.specs.Digits.{behind}
 
-abbrev pub command_seen : Request → Command
-command_seen request.Usage = usage
-command_seen (request.Replay model tree) = replay model.now tree.now
-command_seen (request.Run image words) = run image.now (drop 2 (map string_bytes words.now))
-command_seen (request.Eval model words) = eval model.now (drop 2 (map string_bytes words.now))
+-- the words behind the command's own are a file's name and what else the row takes
+pub data Command : Type 0 where
+  usage : Command
+  replay : (model tree : List ℕ) → (size : ℕ) → Command
+  code : (model tree : List ℕ) → Command
+  run : (image : List ℕ) → (arguments : List (List ℕ)) → Command
+  eval : (model : List ℕ) → (arguments : List (List ℕ)) → Command
+  show : (image : List ℕ) → Command
 
--- the command and a file's name come before the arguments
-abbrev pub HasPlaces : Request → Type 0
-HasPlaces (request.Run image words) = 2 ≤ length words.now
-HasPlaces (request.Eval model words) = 2 ≤ length words.now
-HasPlaces request = ⊤
+-- the greatest size of an image's code in bytes, which holds where no word says another
+abbrev pub most_size : ℕ
+most_size = 1_000_000
+
+-- decimal digits, 48 being `0`, which leads no other digit
+abbrev pub decimal_number : List ℕ → Option ℕ
+decimal_number [] = None
+decimal_number (b ∷ []) = numeral 10 (b ∷ [])
+decimal_number (b ∷ (c ∷ ds)) = if nat_eq b 48 then None else numeral 10 (b ∷ (c ∷ ds))
+
+abbrev pub size_within : ℕ → Option ℕ
+size_within n = if nat_le n most_size then Some n else None
+
+-- the size that a word `size=N` says
+abbrev pub size_of : List ℕ → Option ℕ
+size_of word = option_and_then size_within (option_and_then decimal_number (behind (codes "size=") word))
+
+abbrev pub replay_within : List ℕ → List ℕ → Option ℕ → Command
+replay_within model tree None = usage
+replay_within model tree (Some size) = replay model tree size
+
+abbrev pub replay_of : List ℕ → List (List ℕ) → Command
+replay_of model (tree ∷ []) = replay model tree most_size
+replay_of model (tree ∷ (size ∷ [])) = replay_within model tree (size_of size)
+replay_of model words = usage
+
+abbrev pub code_of : List ℕ → List (List ℕ) → Command
+code_of model (tree ∷ []) = code model tree
+code_of model words = usage
+
+abbrev pub show_of : List ℕ → List (List ℕ) → Command
+show_of image [] = show image
+show_of image words = usage
+
+-- words that fit no row of the command table are usage
+abbrev pub command_of : List (List ℕ) → Command
+command_of [] = usage
+command_of (c ∷ []) = usage
+command_of (c ∷ (file ∷ words)) =
+    if bytes_eq c (codes "replay") then replay_of file words
+    else if bytes_eq c (codes "code") then code_of file words
+    else if bytes_eq c (codes "run") then run file words
+    else if bytes_eq c (codes "eval") then eval file words
+    else if bytes_eq c (codes "show") then show_of file words
+    else usage

@@ -3,12 +3,13 @@
 
 mod answer;
 mod answers;
-mod delivery;
-mod eval_command;
-mod fetching;
-mod replay_command;
-mod run_command;
+mod bounds;
+mod commands;
+mod frame;
+mod inputs;
+mod laws;
 mod top_call;
 mod words;
 
+pub use laws::run_is_eval;
 pub use top_call::{Status, top};

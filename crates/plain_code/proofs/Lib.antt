@@ -1,4 +1,0 @@
-pub mod Arguments
-pub mod Served
-pub mod Accepted
-pub mod Tableless

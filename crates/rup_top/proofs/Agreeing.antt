@@ -1,0 +1,70 @@
+-- The image that `replay` wrote for a model is run to what the model is evaluated to.
+use Rattle.std.proofs.Common.{◌≡◌, ℕ, ◌≤◌, List, length, map, Some, Result, Ok, Err, refl, sym, subst, ap, ◌∙◌, arith}
+use Rattle.rup_base.specs.declared.refusal.Refusal.{Refusal}
+use Rattle.rup_base.specs.declared.arg.Kind.{Kind}
+use Rattle.image_layout.proofs.Layouts.{is_read}
+use Rattle.image_layout.proofs.laws.Length.{image_small}
+use Rattle.image_layout.specs.Spelling.{spelling}
+use Rattle.model_syntax.specs.declared.program.Model.{Model}
+use Rattle.model_syntax.specs.Types.{Well, judge}
+use Rattle.model_reader.specs.Reading.{read_model}
+use Rattle.model_types.specs.Checked.{checked}
+use Rattle.model_syntax.specs.Answer.{◌>>=◌}
+use Rattle.rup_base.specs.Answers.{and_then}
+use Rattle.run_setup.specs.Reading.{ReadsAll}
+use Rattle.rup_top.specs.Agreement.{HoldsBoth, RunIsEval}
+use Rattle.rup_top.specs.Inputs.{image_limit, typed_model}
+use Rattle.rup_top.specs.commands.Run.{CallsGood}
+use Rattle.rup_top.specs.commands.Eval.{CallsModel}
+use Rattle.rup_top.proofs.shown.Run.{run_gives}
+use Rattle.rup_top.proofs.shown.Eval.{eval_gives}
+
+-- a model that is typed is well typed
+judged_well : (n m : Model) (j : Result (Unit {0}) Refusal) → judge n ≡ j → (j >>= (λ u. Ok n)) ≡ Ok m → Well m
+judged_well n m (Ok u) is e = let same : n ≡ m = cc in let P : Model → Type 0 = λ x. judge x ≡ Ok tt in subst P same is
+judged_well n m (Err r) is e = absurd (cc)
+
+typed_well : (m : Model) (r : Result Model Refusal) → and_then r checked ≡ Ok m → Well m
+typed_well m (Ok n) e = judged_well n m (judge n) refl e
+typed_well m (Err r) e = absurd (cc)
+
+module _ (files : List (List ℕ × List ℕ)) (model image : List ℕ) (texts : List (List ℕ)) (given : HoldsBoth (Some files) model image texts) where
+  for_eval : CallsModel (Some files) model texts
+  for_eval = record {
+    bytes = given.text;
+    model_held = given.text_held;
+    model_fits = given.text_fits;
+    m = given.m;
+    model_is = given.model_is;
+    args = given.args;
+    args_taken = given.args_taken;
+    meets = given.meets;
+    small = given.small;
+  }
+
+  for_run : CallsGood (Some files) image texts
+  for_run =
+      let sizes : length given.bytes ≡ length (spelling given.written.image) = ap length given.written.layout.bytes_are in
+      let P : List Kind → Type 0 = λ ks. ReadsAll (Some files) 2 ks texts (Ok given.args) in
+      record {
+        bytes = given.bytes;
+        image_held = given.bytes_held;
+        image_fits = omega (arith, sizes, image_small given.written.image given.written.layout.within);
+        i = given.written.image;
+        image_is = is_read given.bytes given.written.image given.written.layout;
+        m = given.m;
+        well = typed_well given.m (read_model 1 given.text) given.model_is;
+        good = given.written.good;
+        args = given.args;
+        args_taken = subst P (sym given.written.good.params_are) given.args_taken;
+        meets = given.meets;
+        small = given.small;
+        in_time = given.in_time;
+      }
+
+pub run_is_eval : RunIsEval
+unfolding for_run for_eval
+run_is_eval files model image texts given a b runs evals =
+    let ran = run_gives files image texts (for_run files model image texts given) a runs in
+    let found = eval_gives files model texts (for_eval files model image texts given) b evals in
+    (ran.status_is, found.status_is, ran.out_is ∙ sym found.out_is)

@@ -1,5 +1,0 @@
-use Rattle.rup_top.proofs.Taking.{args_stop}
-use Rattle.rup_top.proofs.fetching.take_args.Goals as goal
-
-pub returns-in-Err-clause-err : goal.returns-in-Err-clause-err
-returns-in-Err-clause-err g c = rw (c.into.ensures) (args_stop _ _ _ _ _ _ _ c.in-Err.fail c.in-Err.ensures.reads c.in-Err.ensures.cause)

@@ -1,0 +1,6 @@
+pub mod Derivations
+pub mod Replay
+pub mod Code
+pub mod Run
+pub mod Eval
+pub mod Show

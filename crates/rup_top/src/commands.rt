@@ -1,0 +1,7 @@
+//! The commands, a module each.
+pub mod code;
+pub mod derivations;
+pub mod eval;
+pub mod replay;
+pub mod run;
+pub mod show;

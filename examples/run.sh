@@ -1,7 +1,8 @@
 #!/usr/bin/env bash
 # Runs each example on the proved program, which examples/build.sh builds where it has to: a model with a derivation is
 # replayed, and its image is run on the arguments of each case; every model is evaluated on them. A line of `cases` is
-# arguments, ` = `, and the results that are wanted. A folder may have a script `check` of its own, which gets the
+# arguments, ` = `, and the results that are wanted. Where the command's text and the image stand in the folder, they are what
+# `code` and `replay` write. A folder may have a script `check` of its own, which gets the
 # program's path; where it ends with status 77, its tools aren't there, and it counts as passed.
 set -euo pipefail
 top="$(cd "$(dirname "$0")/.." && pwd)"
@@ -34,6 +35,12 @@ for folder in "$top"/examples/*/; do
   if [ -e "$derivation" ]; then
     note="$("$rup" replay "$model" "$derivation" 2>&1 >"$image")" || true
     echo "$name: $note"
+    if [ -e "$folder$name.code" ]; then
+      compare "$name: code" "$(cat "$folder$name.code")" "$("$rup" code "$model" "$derivation" 2>/dev/null || true)"
+    fi
+    if [ -e "$folder$name.image" ]; then
+      compare "$name: replay, the image's digest" "$(sha256sum <"$folder$name.image")" "$(sha256sum <"$image")"
+    fi
   fi
   while IFS= read -r line; do
     read -r -a arguments <<<"${line% = *}"

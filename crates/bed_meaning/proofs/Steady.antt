@@ -1,16 +1,18 @@
 -- A run with more fuel ends as the run with less does, with so much more left, unless that ran out of it.
 use Rattle.std.proofs.Common.{◌≡◌, refl, sym, ap, subst, arith, ℕ, zero, suc, ◌+◌, List, [], ◌∷◌, map, Option, Some, None, Result, Ok, Err}
+use Rattle.bed_meaning.specs.Fuelled.{and_then, given, take_one, fuelled, choose, in_turn, finish}
+use Rattle.rv_memory.specs.Ranges.{Bytes}
 use Rattle.bed_syntax.specs.Weight.{expr_weight}
 use Rattle.bed_syntax.specs.declared.weights.Weights.{Weights}
 use Rattle.bed_syntax.specs.declared.command.Cmd.{Cmd, Cmd-F, fold-roll-Cmd, map-Cmd, roll-Cmd, ind-Cmd}
 use Rattle.bed_syntax.specs.declared.command.Cmd.TheOpen as c
 use Rattle.bed_meaning.specs.declared.halt.Halt.{Halt}
 use Rattle.bed_meaning.specs.declared.halt.Halt.TheVariants.{Stuck, OutOfFuel}
-use Rattle.bed_meaning.specs.Access.{Bytes, store}
+use Rattle.bed_meaning.specs.Access.{store}
 use Rattle.bed_meaning.specs.Locals.{Vars, assigned}
 use Rattle.bed_meaning.specs.Value.{value}
 use Rattle.bed_meaning.specs.State.{State, spend}
-use Rattle.bed_meaning.specs.Meaning.{Rule, and_then, given, take_one, fuelled, choose, in_turn, turns, run_step, run, finish}
+use Rattle.bed_meaning.specs.Meaning.{Rule, turns, run_step, run}
 use Rattle.bed_meaning.specs.MoreFuel.{Keeps, KeepsWithMoreFuel}
 
 abbrev plus : ℕ → State → State

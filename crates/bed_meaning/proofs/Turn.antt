@@ -5,8 +5,9 @@ use Rattle.bed_syntax.specs.declared.weights.Weights.{Weights}
 use Rattle.bed_syntax.specs.declared.expression.BExpr.{BExpr}
 use Rattle.bed_meaning.specs.Value.{value}
 use Rattle.bed_meaning.specs.State.{State, spend}
-use Rattle.bed_meaning.specs.Meaning.{Rule, and_then, given, take_one, fuelled, choose, turns, loop_of}
+use Rattle.bed_meaning.specs.Meaning.{Rule, turns, loop_of}
 use Rattle.std.specs.Prelude.{Ok}
+use Rattle.bed_meaning.specs.Fuelled.{and_then, given, take_one, fuelled, choose}
 
 abbrev pub left : State → ℕ → ℕ → State
 left s fuel ticks = record { fuel = fuel; ticks = ticks; mem = s.mem; vars = s.vars }

@@ -1,4 +1,5 @@
 pub mod Access
+pub mod Fuelled
 pub mod Locals
 pub mod Meaning
 pub mod MoreFuel

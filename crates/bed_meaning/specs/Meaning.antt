@@ -1,5 +1,7 @@
 -- The meaning of commands (Bedrock2's commands without interaction and calls), with fuel and ticks.
 use Rattle.std.specs.Prelude.{ℕ, zero, suc, ◌+◌, List, [], ◌∷◌, Option, Some, None, Result, Ok, Err}
+use Rattle.bed_meaning.specs.Fuelled.{and_then, given, fuelled, choose, in_turn, finish, Doing, Ended}
+use Rattle.rv_memory.specs.Ranges.{Bytes}
 use Rattle.bed_syntax.specs.Weight.{expr_weight}
 use Rattle.bed_syntax.specs.declared.weights.Weights.{Weights}
 use Rattle.bed_syntax.specs.declared.expression.BExpr.{BExpr}
@@ -7,41 +9,14 @@ use Rattle.bed_syntax.specs.declared.command.Cmd.{Cmd, Cmd-F, fold-Cmd}
 use Rattle.bed_syntax.specs.declared.command.Cmd.TheOpen as c
 use Rattle.bed_meaning.specs.declared.halt.Halt.{Halt}
 use Rattle.bed_meaning.specs.declared.halt.Halt.TheVariants.{Stuck, OutOfFuel}
-use Rattle.bed_meaning.specs.Access.{Bytes, store}
+use Rattle.bed_meaning.specs.Access.{store}
 use Rattle.bed_meaning.specs.Locals.{Vars, assigned}
 use Rattle.bed_meaning.specs.Value.{value}
 use Rattle.bed_meaning.specs.State.{State, spend, with_vars, with_mem}
 
 -- what a command does: the state after it, or why there is none
 abbrev pub Rule : Type 0
-Rule = State → Result State Halt
-
--- a rule after another
-abbrev pub and_then : Result State Halt → Rule → Result State Halt
-and_then (Ok s) next = next s
-and_then (Err h) next = Err h
-
--- a rule that is given a value, and is stuck where there is none
-abbrev pub given : {A : Type 0} → Option A → (A → Result State Halt) → Result State Halt
-given None next = Err Stuck
-given (Some x) next = next x
-
-abbrev pub take_one : ℕ → State → Rule → Result State Halt
-take_one zero s next = Err OutOfFuel
-take_one (suc n) s next = next (record { fuel = n; ticks = s.ticks; mem = s.mem; vars = s.vars })
-
--- a rule that first takes one from the fuel
-abbrev pub fuelled : Rule → Rule
-fuelled next s = take_one s.fuel s next
-
--- any number but 0 is true
-abbrev pub choose : ℕ → Rule → Rule → Rule
-choose zero first second = second
-choose (suc n) first second = first
-
-abbrev pub in_turn : List Rule → Rule
-in_turn [] s = Ok s
-in_turn (rule ∷ rules) s = and_then (rule s) (in_turn rules)
+Rule = Doing Vars
 
 -- a loop with at most so many tests: a test costs its price, and a turn takes one from the fuel
 abbrev pub turns : ℕ → (State → Option ℕ) → ℕ → Rule → Rule
@@ -69,11 +44,7 @@ run w = fold-Cmd Rule (run_step w)
 
 -- the ticks, the memory and the locals at the end
 abbrev pub End : Type 0
-End = Result (ℕ × Bytes × Vars) Halt
-
-abbrev pub finish : Result State Halt → End
-finish (Ok s) = Ok (s.ticks, s.mem, s.vars)
-finish (Err h) = Err h
+End = Ended Vars
 
 -- the whole run of a command
 abbrev pub exec : Weights → ℕ → Cmd → Bytes → Vars → End

@@ -1,9 +1,9 @@
 -- What more fuel changes: nothing where the run ended, or was stuck.
 use Rattle.std.specs.Prelude.{◌≡◌, ℕ, ◌+◌, Ok, Err}
+use Rattle.rv_memory.specs.Ranges.{Bytes}
 use Rattle.bed_syntax.specs.declared.weights.Weights.{Weights}
 use Rattle.bed_syntax.specs.declared.command.Cmd.{Cmd}
 use Rattle.bed_meaning.specs.declared.halt.Halt.TheVariants.{Stuck, OutOfFuel}
-use Rattle.bed_meaning.specs.Access.{Bytes}
 use Rattle.bed_meaning.specs.Locals.{Vars}
 use Rattle.bed_meaning.specs.Meaning.{End, exec}
 

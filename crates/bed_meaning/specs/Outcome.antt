@@ -1,10 +1,10 @@
 -- How what the code answers stands for what the meaning says.
 use Rattle.std.specs.Prelude.{◌≡◌, ℕ, suc, Option, Some, None, Result, Ok, Err}
+use Rattle.rv_memory.specs.Ranges.{Bytes}
 use Rattle.bed_meaning.specs.declared.halt.Halt.{Halt}
 use Rattle.bed_meaning.specs.declared.halt.Halt.TheVariants as halt
 use Rattle.bed_meaning.specs.declared.execution.BEnd.{BEnd}
 use Rattle.bed_meaning.specs.declared.execution.BEnd.TheVariants as end
-use Rattle.bed_meaning.specs.Access.{Bytes}
 use Rattle.bed_meaning.specs.Locals.{Vars}
 use Rattle.bed_meaning.specs.State.{State}
 use Rattle.bed_meaning.specs.Meaning.{End}

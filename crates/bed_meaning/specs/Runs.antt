@@ -1,13 +1,14 @@
 -- Runs of commands without fuel: what a command makes of memory and locals, and in how many ticks.
 use Rattle.std.specs.Prelude.{◌≡◌, ℕ, suc, ◌+◌, ◌≤◌, List, [], ◌∷◌, length, Some, is_some, Ok}
 use Rattle.std.specs.FinMap.{get}
+use Rattle.rv_memory.specs.Ranges.{Bytes}
 use Rattle.bed_syntax.specs.Weight.{expr_weight}
 use Rattle.bed_syntax.specs.declared.weights.Weights.{Weights}
 use Rattle.bed_syntax.specs.declared.operation.Size.{Size}
 use Rattle.bed_syntax.specs.declared.expression.BExpr.{BExpr}
 use Rattle.bed_syntax.specs.declared.command.Cmd.{Cmd, roll-Cmd}
 use Rattle.bed_syntax.specs.declared.command.Cmd.TheOpen as c
-use Rattle.bed_meaning.specs.Access.{Bytes, store}
+use Rattle.bed_meaning.specs.Access.{store}
 use Rattle.bed_meaning.specs.Locals.{Vars, assigned}
 use Rattle.bed_meaning.specs.Value.{value}
 use Rattle.bed_meaning.specs.Meaning.{exec}

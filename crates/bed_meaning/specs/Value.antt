@@ -1,10 +1,11 @@
 -- The values of expressions. Every part of an expression is evaluated, from left to right, so that what it costs is its
 -- weight.
 use Rattle.std.specs.Prelude.{ℕ, Option, Some, None}
+use Rattle.rv_memory.specs.Ranges.{Bytes}
 use Rattle.bed_syntax.specs.Operation.{apply}
 use Rattle.bed_syntax.specs.declared.expression.BExpr.{BExpr, BExpr-F, fold-BExpr}
 use Rattle.bed_syntax.specs.declared.expression.BExpr.TheOpen as e
-use Rattle.bed_meaning.specs.Access.{Bytes, loaded, entry}
+use Rattle.bed_meaning.specs.Access.{loaded, entry}
 use Rattle.bed_meaning.specs.Locals.{Vars, local_at}
 
 -- a function of a value that may be missing

@@ -1,10 +1,11 @@
 //! The run of a command.
 ghost use Rattle.std.specs.Prelude.{◌≡◌, ◌+◌, ◌*◌, ◌^◌, ◌<◌, ◌≤◌, OnOk, map, sum};
+ghost use Rattle.bed_meaning.specs.Fuelled.{in_turn};
 ghost use Rattle.bed_syntax.specs.Shape.{expr_size, cmd_size};
 ghost use Rattle.bed_syntax.specs.Weight.{IsLawful};
 ghost use Rattle.bed_meaning.specs.Outcome.{Came, EndsAs};
 ghost use Rattle.bed_meaning.specs.State.{state_of};
-ghost use Rattle.bed_meaning.specs.Meaning.{in_turn, loop_of};
+ghost use Rattle.bed_meaning.specs.Meaning.{loop_of};
 ghost use Rattle.bed_meaning.specs.Meaning as spec;
 
 use crate::access::save;

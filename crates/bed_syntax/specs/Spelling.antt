@@ -1,6 +1,7 @@
 -- The text of commands.
 use Rattle.std.specs.Prelude.{ℕ, ◌+◌, ◌/◌, ◌%◌, nat_lt, List, [], ◌∷◌, ◌++◌, codes, if◌then◌else◌}
 use Rattle.std.specs.Fmt.{decimal}
+use Rattle.rup_base.specs.Spelling.{behind_spaces, hex_digit}
 use Rattle.bed_syntax.specs.declared.operation.BOp.{BOp}
 use Rattle.bed_syntax.specs.declared.operation.BOp.TheVariants as op
 use Rattle.bed_syntax.specs.declared.operation.Size.{Size}
@@ -9,11 +10,6 @@ use Rattle.bed_syntax.specs.declared.expression.BExpr.{BExpr, BExpr-F, fold-BExp
 use Rattle.bed_syntax.specs.declared.expression.BExpr.TheOpen as e
 use Rattle.bed_syntax.specs.declared.command.Cmd.{Cmd, Cmd-F, fold-Cmd}
 use Rattle.bed_syntax.specs.declared.command.Cmd.TheOpen as c
-
--- each text behind a space, 32
-abbrev pub behind_spaces : List (List ℕ) → List ℕ
-behind_spaces [] = []
-behind_spaces (t ∷ ts) = 32 ∷ t ++ behind_spaces ts
 
 -- texts in parentheses, 40 and 41, with a space between each two
 abbrev pub listed : List ℕ → List (List ℕ) → List ℕ
@@ -45,10 +41,6 @@ size_digit size.Four = 52
 -- a word and the number of bytes
 abbrev pub sized : List ℕ → Size → List ℕ
 sized word size = word ++ size_digit size ∷ []
-
--- a digit to the base 16: `0` to `9`, then `a` to `f`
-abbrev pub hex_digit : ℕ → ℕ
-hex_digit d = if nat_lt d 10 then 48 + d else 87 + d
 
 -- two digits for each byte
 abbrev pub hex : List ℕ → List ℕ

@@ -1,8 +1,8 @@
 //! Operations on words, and the sizes of what lies in memory and tables.
 ghost use Rattle.std.specs.Prelude.{◌≡◌, ◌<◌};
-ghost use Rattle.bed_syntax.specs.Operation.{apply, shift_signed};
+ghost use Rattle.bed_syntax.specs.Operation.{apply};
 
-use rup_base::{high_product, signed_less};
+use rup_base::{high_product, shift_signed, signed_less};
 
 /// How many bytes are loaded, stored or looked up.
 #[derive(Clone, Copy, Debug, PartialEq, Eq)]
@@ -64,11 +64,4 @@ impl BOp {
             BOp::Eq => u32::from(a == b),
         }
     }
-}
-
-fn shift_signed(a: u32, k: u32) -> u32
-    requires { k < 32 }
-    ensures { result ≡ shift_signed a k }
-{
-    if a < 0x8000_0000 { a >> k } else { !(!a >> k) }
 }

@@ -1,12 +1,13 @@
 //! Commands to their text.
 ghost use Rattle.std.specs.Prelude.{◌≡◌, ◌<◌, ◌++◌, OnOk, IfOk, map};
 ghost use Rattle.std.specs.Fmt.{decimal};
+ghost use Rattle.rup_base.specs.Spelling as texts;
 ghost use Rattle.bed_syntax.specs.Spelling as spelling;
 
 use crate::command::Cmd;
 use crate::expression::BExpr;
 use crate::operation::{BOp, Size};
-use rup_base::{NoMemory, Text};
+use rup_base::{NoMemory, Text, hex_digit};
 use std::alloc::Global;
 
 /// The text of a command: lists in parentheses with single spaces, as `(seq (set v1 (mul v0 8)))`.
@@ -47,17 +48,6 @@ fn size_digit(size: Size) -> u8
         Size::One => b'1',
         Size::Two => b'2',
         Size::Four => b'4',
-    }
-}
-
-fn hex_digit(digit: u8) -> u8
-    requires { digit < 16 }
-    ensures { result ≡ spelling.hex_digit digit }
-{
-    if digit < 10 {
-        b'0' + digit
-    } else {
-        b'a' + (digit - 10)
     }
 }
 
@@ -167,7 +157,7 @@ fn write_cmd(alloc: Global, out: &mut Text, c: &Cmd) -> Result<(), NoMemory>
 // Each command behind a space.
 #[cycle(write)]
 fn write_cmds(alloc: Global, out: &mut Text, cs: &[Cmd]) -> Result<(), NoMemory>
-    ensures { OnOk result (out.new ≡ out.old ++ spelling.behind_spaces (map spelling.cmd_text cs.now)) }
+    ensures { OnOk result (out.new ≡ out.old ++ texts.behind_spaces (map spelling.cmd_text cs.now)) }
 {
     for c in cs {
         out.push(b' ')?;

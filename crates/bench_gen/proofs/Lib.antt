@@ -2,4 +2,4 @@ mod Counting
 mod Nodes
 mod Modest
 mod Typing
-mod Valid
+pub mod laws

@@ -84,7 +84,7 @@ total_other values f g one (suc place) less none all =
 place_test : ℕ → Bool
 place_test place = nat_eq (place_of (symbols_at place).0 (symbols_at place).1) place
 
-place_is : (place : ℕ) → place < 45 → place_of (symbols_at place).0 (symbols_at place).1 ≡ place
+pub place_is : (place : ℕ) → place < 45 → place_of (symbols_at place).0 (symbols_at place).1 ≡ place
 unfolding place_test symbols_at all_below
 place_is place less = eqb-true _ _ (one_below place_test 45 place refl less)
 

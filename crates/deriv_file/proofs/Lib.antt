@@ -1,6 +1,5 @@
 pub mod Answered
 pub mod Counted
-pub mod FileReread
 pub mod Filling
 pub mod LineFeed
 pub mod Listing

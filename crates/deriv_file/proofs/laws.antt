@@ -1,1 +1,2 @@
 pub mod FileOf
+pub mod FileReread

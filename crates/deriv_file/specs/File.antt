@@ -14,7 +14,8 @@ use Rattle.deriv_tree.specs.declared.tree.Derivation.{Derivation}
 use Rattle.deriv_tree.specs.declared.tree.Block.{out-Block}
 use Rattle.deriv_tree.specs.declared.listed.Listed.{Listed}
 use Rattle.deriv_tree.specs.Preorder.{preorder}
-use Rattle.deriv_file.specs.Numbers.{number_in, most_nodes}
+use Rattle.deriv_tree.specs.Shape.{most_nodes}
+use Rattle.deriv_file.specs.Numbers.{number_in}
 use Rattle.deriv_file.specs.NodeList.{nodes_of, all_nodes}
 use Rattle.deriv_file.specs.Forest.{body_of}
 use Rattle.deriv_file.specs.Limits.{Within}

@@ -1,5 +1,6 @@
 -- Whole numbers of a file: those that JSON's reading gives as a 64-bit integer, so none with a point or an exponent.
 use Rattle.std.specs.Prelude.{ℕ, ◌^◌, Bool, true, false, ◌&&◌, nat_le, List, [], ◌∷◌, Option, Some, None, option_map, option_and_then, ℤ, nat_abs}
+use Rattle.deriv_tree.specs.Shape.{most_nodes}
 use Rattle.serde_json.specs.Data.{Data, Items, no_items, item}
 use Rattle.serde_json.specs.Find.{as_number, as_i64, as_u64}
 
@@ -18,10 +19,6 @@ argument_of d = option_and_then (λ z. only_if (nat_le (nat_abs z) (2 ^ 40)) z) 
 abbrev pub arguments_of : Items → Option (List ℤ)
 arguments_of no_items = Some []
 arguments_of (item d ds) = option_and_then (λ z. option_map (λ zs. z ∷ zs) (arguments_of ds)) (argument_of d)
-
--- the greatest number of nodes of a tree, and of a block
-abbrev pub most_nodes : ℕ
-most_nodes = 20_000
 
 abbrev pub count_of : Data → Option ℕ
 count_of d = number_in 0 most_nodes d

@@ -52,7 +52,3 @@ stmt_depth = fold-StmtNode ℕ ℕ block_depth_step stmt_depth_step
 -- a node of the outer block has depth 1, and each other node one more than the node that holds it; the greatest counts
 abbrev pub depth : Derivation → ℕ
 depth d = block_depth d.body
-
--- a count as a 32-bit number, which stays at its greatest value
-abbrev pub counted : ℕ → ℕ
-counted n = min n 4294967295

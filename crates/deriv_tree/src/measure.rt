@@ -1,5 +1,6 @@
 //! How large a tree is. These counts take no memory, and stay at 4294967295 where they are greater.
 ghost use Rattle.std.specs.Prelude.{◌≡◌, max, map, sum};
+ghost use Rattle.rup_base.specs.Word as words;
 ghost use Rattle.rup_base.specs.Gather.{greatest};
 ghost use Rattle.deriv_tree.specs.Measure as spec;
 ghost use Rattle.deriv_tree.specs.Shape.{IsWhole};
@@ -26,7 +27,7 @@ impl Derivation {
 }
 
 fn expr_size(node: &ExprNode) -> u32
-    ensures { result ≡ spec.counted (spec.expr_size node.now) }
+    ensures { result ≡ words.counted (spec.expr_size node.now) }
 {
     let mut size: u32 = 1;
     for kid in node.kids.as_slice() {
@@ -36,7 +37,7 @@ fn expr_size(node: &ExprNode) -> u32
 }
 
 fn exprs_size(nodes: &[ExprNode]) -> u32
-    ensures { result ≡ spec.counted (sum (map spec.expr_size nodes.now)) }
+    ensures { result ≡ words.counted (sum (map spec.expr_size nodes.now)) }
 {
     let mut size: u32 = 0;
     for node in nodes {
@@ -47,7 +48,7 @@ fn exprs_size(nodes: &[ExprNode]) -> u32
 
 #[cycle(size)]
 fn stmt_size(node: &StmtNode) -> u32
-    ensures { result ≡ spec.counted (spec.stmt_size node.now) }
+    ensures { result ≡ words.counted (spec.stmt_size node.now) }
 {
     let mut size: u32 = exprs_size(node.kids.as_slice()).saturating_add(1);
     for block in node.blocks.as_slice() {
@@ -58,7 +59,7 @@ fn stmt_size(node: &StmtNode) -> u32
 
 #[cycle(size)]
 fn block_size(block: &Block) -> u32
-    ensures { result ≡ spec.counted (spec.block_size block.now) }
+    ensures { result ≡ words.counted (spec.block_size block.now) }
 {
     let mut size: u32 = 0;
     for node in block.nodes.as_slice() {
@@ -68,7 +69,7 @@ fn block_size(block: &Block) -> u32
 }
 
 fn expr_depth(node: &ExprNode) -> u32
-    ensures { result ≡ spec.counted (spec.expr_depth node.now) }
+    ensures { result ≡ words.counted (spec.expr_depth node.now) }
 {
     let mut deepest: u32 = 0;
     for kid in node.kids.as_slice() {
@@ -78,7 +79,7 @@ fn expr_depth(node: &ExprNode) -> u32
 }
 
 fn exprs_depth(nodes: &[ExprNode]) -> u32
-    ensures { result ≡ spec.counted (greatest (map spec.expr_depth nodes.now)) }
+    ensures { result ≡ words.counted (greatest (map spec.expr_depth nodes.now)) }
 {
     let mut deepest: u32 = 0;
     for node in nodes {
@@ -89,7 +90,7 @@ fn exprs_depth(nodes: &[ExprNode]) -> u32
 
 #[cycle(depth)]
 fn stmt_depth(node: &StmtNode) -> u32
-    ensures { result ≡ spec.counted (spec.stmt_depth node.now) }
+    ensures { result ≡ words.counted (spec.stmt_depth node.now) }
 {
     let mut deepest: u32 = exprs_depth(node.kids.as_slice());
     for block in node.blocks.as_slice() {
@@ -100,7 +101,7 @@ fn stmt_depth(node: &StmtNode) -> u32
 
 #[cycle(depth)]
 fn block_depth(block: &Block) -> u32
-    ensures { result ≡ spec.counted (spec.block_depth block.now) }
+    ensures { result ≡ words.counted (spec.block_depth block.now) }
 {
     let mut deepest: u32 = 0;
     for node in block.nodes.as_slice() {

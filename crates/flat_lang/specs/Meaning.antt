@@ -1,47 +1,24 @@
 -- The meaning of three-address code, with fuel and ticks: each statement and each turn of a loop takes one from the fuel,
 -- and each statement costs its own weight.
 use Rattle.std.specs.Prelude.{ℕ, zero, suc, List, [], ◌∷◌, map, Option, Some, None, Result, Ok, Err, slice_get}
-use Rattle.std.specs.FinMap.{get}
+use Rattle.std.specs.Ordering.{nat_cmp}
+use Rattle.std.specs.FinMap.{FinMap, get}
+use Rattle.bed_meaning.specs.Fuelled.{and_then, given, fuelled, choose, in_turn, finish, Doing, Ended}
+use Rattle.bed_meaning.specs.State.{spend, with_mem}
+use Rattle.rv_memory.specs.Ranges.{Bytes}
 use Rattle.bed_syntax.specs.Operation.{apply}
 use Rattle.bed_syntax.specs.declared.weights.Weights.{Weights}
 use Rattle.bed_meaning.specs.declared.halt.Halt.{Halt}
 use Rattle.bed_meaning.specs.declared.halt.Halt.TheVariants.{Stuck, OutOfFuel}
-use Rattle.bed_meaning.specs.Access.{Bytes, loaded, entry, store}
+use Rattle.bed_meaning.specs.Access.{loaded, entry, store}
 use Rattle.flat_lang.specs.declared.flat.FStmt.{FStmt, FStmt-F, fold-FStmt}
 use Rattle.flat_lang.specs.declared.flat.FStmt.TheOpen as f
 use Rattle.flat_lang.specs.declared.flat.Flat.{Flat}
-use Rattle.flat_lang.specs.State.{State, Vars, spend, with_mem, with_var}
+use Rattle.flat_lang.specs.State.{State, Vars, with_var}
 
 -- what a statement does: the state after it, or why there is none
 abbrev pub Rule : Type 0
-Rule = State → Result State Halt
-
--- a rule after another
-abbrev pub and_then : Result State Halt → Rule → Result State Halt
-and_then (Ok s) next = next s
-and_then (Err h) next = Err h
-
--- a rule that is given a value, and is stuck where there is none
-abbrev pub given : {A : Type 0} → Option A → (A → Result State Halt) → Result State Halt
-given None next = Err Stuck
-given (Some x) next = next x
-
-abbrev pub take_one : ℕ → State → Rule → Result State Halt
-take_one zero s next = Err OutOfFuel
-take_one (suc n) s next = next (record { fuel = n; ticks = s.ticks; mem = s.mem; vars = s.vars })
-
--- a rule that first takes one from the fuel
-abbrev pub fuelled : Rule → Rule
-fuelled next s = take_one s.fuel s next
-
--- any number but 0 is true
-abbrev pub choose : ℕ → Rule → Rule → Rule
-choose zero first second = second
-choose (suc n) first second = first
-
-abbrev pub in_turn : List Rule → Rule
-in_turn [] s = Ok s
-in_turn (rule ∷ rules) s = and_then (rule s) (in_turn rules)
+Rule = Doing (FinMap nat_cmp ℕ)
 
 -- a variable is set, at a price
 abbrev pub sets : ℕ → ℕ → ℕ → Rule
@@ -75,11 +52,7 @@ run_all w tables body = in_turn (map (run w tables) body)
 
 -- the ticks, the memory and the variables at the end
 abbrev pub End : Type 0
-End = Result (ℕ × Bytes × Vars) Halt
-
-abbrev pub finish : Result State Halt → End
-finish (Ok s) = Ok (s.ticks, s.mem, s.vars)
-finish (Err h) = Err h
+End = Ended (FinMap nat_cmp ℕ)
 
 -- the whole run of a code
 abbrev pub exec : Weights → Flat → ℕ → Bytes → Vars → End

@@ -2,9 +2,9 @@
 use Rattle.std.proofs.Common.{◌≡◌, refl, ap, ℕ, zero, suc, ◌+◌, ◌<◌, ◌≤◌, List, [], ◌∷◌, map, take, length, get_or, arith, Ok}
 use Rattle.rup_base.specs.declared.arg.Place.{Place}
 use Rattle.sx_text.specs.declared.tree.Sx.{Sx}
-use Rattle.model_reader.specs.Parts.{missing, wrong}
+use Rattle.model_reader.specs.Parts.{missing, wrong, form}
 use Rattle.model_reader.specs.Sizes.{size, sizes}
-use Rattle.lemma_files.specs.Parts.{Part, form, end}
+use Rattle.lemma_files.specs.Parts.{Part, end}
 use Rattle.lemma_files.specs.Reading.{part}
 
 pub form_in : (p : Place) (ks : List Sx) (i : ℕ) (d : Sx) → i < length ks → form i p (map part ks) ≡ Ok (part (get_or ks i d))

@@ -1,12 +1,12 @@
 -- The rules of lemmas and of their files.
 use Rattle.std.specs.Prelude.{ℕ, List, take, drop, Ok, codes, if◌then◌else◌}
-use Rattle.model_syntax.specs.Names.{same}
-use Rattle.model_reader.specs.Parts.{Name, ◌>>=◌, wrong}
+use Rattle.model_syntax.specs.Names.{same, Name}
+use Rattle.model_reader.specs.Parts.{◌>>=◌, wrong, nth, each, some}
 use Rattle.lemma_files.specs.declared.terms.Shape.{Shape}
 use Rattle.lemma_files.specs.declared.terms.Shape.TheVariants as shape
 use Rattle.lemma_files.specs.declared.terms.Lemma.{Lemma}
 use Rattle.lemma_files.specs.declared.terms.Lemma.TheVariants.{Rewrite, Note}
-use Rattle.lemma_files.specs.Parts.{Kind, Rule, nth, end, each, some, headed, behind, name, number, fact, pattern}
+use Rattle.lemma_files.specs.Parts.{Kind, Rule, end, headed, behind, name, number, fact, pattern}
 
 -- the greatest number of steps
 abbrev pub most_steps : ℕ

@@ -2,10 +2,10 @@
 -- its parts in the order of the text, and the first part that is refused is the first form that is not of its kind.
 use Rattle.std.specs.Prelude.{ℕ, zero, suc, List, [], ◌∷◌, Ok, if◌then◌else◌}
 use Rattle.rup_base.specs.declared.arg.Place.{Place}
-use Rattle.model_syntax.specs.Names.{same}
+use Rattle.model_syntax.specs.Names.{same, Name}
 use Rattle.model_syntax.specs.declared.stmt.Le.{Le}
 use Rattle.model_reader.specs.Parts as model
-use Rattle.model_reader.specs.Parts.{Answer, Reading, Name, ◌>>=◌, wrong, missing}
+use Rattle.model_reader.specs.Parts.{Answer, Reading, ◌>>=◌, wrong, missing}
 use Rattle.lemma_files.specs.declared.terms.Pattern.{Pattern}
 use Rattle.lemma_files.specs.declared.terms.Shape.{Shape}
 use Rattle.lemma_files.specs.declared.terms.Lemma.{Lemma}
@@ -32,34 +32,11 @@ Kind A = Part → Answer A
 abbrev pub Rule : Type 0 → Type 0
 Rule A = Place → List Part → Answer A
 
--- the form with a number
-abbrev pub form : ℕ → Rule Part
-form i p [] = missing p
-form zero p (f ∷ fs) = Ok f
-form (suc i) p (f ∷ fs) = form i p fs
-
--- the form with a number, as a kind
-abbrev pub nth : {A : Type 0} → ℕ → Kind A → Rule A
-nth i kind p fs = form i p fs >>= kind
-
 -- no form with this number
 abbrev pub end : ℕ → List Part → Answer (Unit {0})
 end i [] = Ok tt
 end zero (f ∷ fs) = wrong f.model.at
 end (suc i) (f ∷ fs) = end i fs
-
--- each form, as one kind
-abbrev pub each : {A : Type 0} → Kind A → List Part → Answer (List A)
-each kind [] = Ok []
-each kind (f ∷ fs) = do
-  a ← kind f
-  more ← each kind fs
-  Ok (a ∷ more)
-
--- at least one form, each of one kind
-abbrev pub some : {A : Type 0} → Kind A → Rule (List A)
-some kind p [] = missing p
-some kind p (f ∷ fs) = each kind (f ∷ fs)
 
 -- the bytes of a list's first form, none where it is a list, and the forms behind it
 abbrev pub headed : Rule (List ℕ × List Part)

@@ -1,17 +1,18 @@
 -- The rules of patterns: those of expressions, and holes.
 use Rattle.std.specs.Prelude.{ℕ, nat_eq, List, [], ◌∷◌, Ok, Option, Some, None, if◌then◌else◌}
+use Rattle.model_syntax.specs.Names.{Name}
 use Rattle.rup_base.specs.Name.{name_of}
 use Rattle.rup_base.specs.declared.arg.Place.{Place}
 use Rattle.model_syntax.specs.declared.expr.Scalar.{Scalar}
 use Rattle.rup_base.specs.Number as numbers
-use Rattle.model_reader.specs.Parts.{Answer, Name, ◌>>=◌, known}
+use Rattle.model_reader.specs.Parts.{Answer, ◌>>=◌, known, nth}
 use Rattle.model_reader.specs.Expressions as model
 use Rattle.lemma_files.specs.declared.words.Word.{Word}
 use Rattle.lemma_files.specs.declared.words.Word.TheVariants as word
 use Rattle.lemma_files.specs.declared.terms.Pattern.{Pattern}
 use Rattle.lemma_files.specs.declared.terms.Pattern.TheVariants as p
 use Rattle.lemma_files.specs.Words.{word_of}
-use Rattle.lemma_files.specs.Parts.{Kind, Rule, nth, end, headed, name, pattern}
+use Rattle.lemma_files.specs.Parts.{Kind, Rule, end, headed, name, pattern}
 
 -- byte or word, before a table
 abbrev pub scalar : Kind Scalar

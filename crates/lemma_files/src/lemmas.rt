@@ -1,5 +1,6 @@
 //! Lemmas and their files.
 ghost use Rattle.std.specs.Prelude.{◌≡◌, map};
+ghost use Rattle.model_reader.specs.Parts as lists;
 ghost use Rattle.model_reader.specs.Yields.{Yields};
 ghost use Rattle.lemma_files.specs.Parts as parts;
 ghost use Rattle.lemma_files.specs.Lemmas as spec;
@@ -25,7 +26,7 @@ fn read_number(form: &Sx) -> Result<u32, Misread>
 }
 
 fn each_number(alloc: Global, forms: &[Sx]) -> Result<List<u32>, Misread>
-    ensures { Yields result (parts.each parts.number (map part forms.now)) }
+    ensures { Yields result (lists.each parts.number (map part forms.now)) }
 {
     let mut numbers = List::new(alloc);
     for form in forms {
@@ -35,7 +36,7 @@ fn each_number(alloc: Global, forms: &[Sx]) -> Result<List<u32>, Misread>
 }
 
 fn some_numbers(alloc: Global, p: Place, forms: &[Sx]) -> Result<List<u32>, Misread>
-    ensures { Yields result (parts.some parts.number p (map part forms.now)) }
+    ensures { Yields result (lists.some parts.number p (map part forms.now)) }
 {
     match forms {
         [] => Err(missing(p)),
@@ -101,7 +102,7 @@ fn fact_of(alloc: Global, form: &Sx) -> Result<Le, Misread>
 }
 
 fn each_fact(alloc: Global, forms: &[Sx]) -> Result<List<Le>, Misread>
-    ensures { Yields result (parts.each parts.fact (map part forms.now)) }
+    ensures { Yields result (lists.each parts.fact (map part forms.now)) }
 {
     let mut facts = List::new(alloc);
     for form in forms {
@@ -111,7 +112,7 @@ fn each_fact(alloc: Global, forms: &[Sx]) -> Result<List<Le>, Misread>
 }
 
 fn some_facts(alloc: Global, p: Place, forms: &[Sx]) -> Result<List<Le>, Misread>
-    ensures { Yields result (parts.some parts.fact p (map part forms.now)) }
+    ensures { Yields result (lists.some parts.fact p (map part forms.now)) }
 {
     match forms {
         [] => Err(missing(p)),
@@ -155,7 +156,7 @@ fn read_lemma(alloc: Global, form: &Sx) -> Result<Lemma, Misread>
 }
 
 fn each_lemma(alloc: Global, forms: &[Sx]) -> Result<List<Lemma>, Misread>
-    ensures { Yields result (parts.each spec.lemma (map part forms.now)) }
+    ensures { Yields result (lists.each spec.lemma (map part forms.now)) }
 {
     let mut lemmas = List::new(alloc);
     for form in forms {

@@ -1,5 +1,6 @@
 //! The parts of a list: its forms by number, and what is refused of them.
 ghost use Rattle.std.specs.Prelude.{◌≡◌, ◌+◌, ◌≤◌, ◌-◌, map, take, drop, Ok, IfOk, IfErr};
+ghost use Rattle.model_reader.specs.Parts as lists;
 ghost use Rattle.model_reader.specs.declared.parts.Misread.TheVariants as misread;
 ghost use Rattle.model_reader.specs.Parts.{wrong, missing};
 ghost use Rattle.model_reader.specs.Reading.{reading};
@@ -75,11 +76,11 @@ pub(crate) fn behind<'a>(word: &[u8], p: Place, kids: &'a [Sx]) -> Result<&'a [S
 /// The form with a number in the list at a place. Where it is missing, the list's closing parenthesis is refused.
 #[tactic(auto, using(crate::proofs::Nth::form_in, crate::proofs::Nth::form_out, crate::proofs::Nth::size_in, crate::proofs::AsModel::as_model))]
 pub(crate) fn form_at<'a>(p: Place, kids: &'a [Sx], i: usize) -> Result<&'a Sx, Misread>
-    ensures form { IfOk result (λ form. parts.form i p (map part kids.now) ≡ Ok (part form.now)) }
+    ensures form { IfOk result (λ form. lists.form i p (map part kids.now) ≡ Ok (part form.now)) }
     ensures model { IfOk result (λ form. (part form.now).model ≡ reading form.now) }
     ensures smaller { IfOk result (λ form. size form.now ≤ sizes kids.now) }
     ensures missing { IfErr result (λ e. (e ≡ misread.At (p.end - 1))
-        × (parts.form i p (map part kids.now) ≡ missing p)) }
+        × (lists.form i p (map part kids.now) ≡ missing p)) }
 {
     if i < kids.len() {
         Ok(&kids[i])

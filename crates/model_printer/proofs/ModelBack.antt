@@ -1,6 +1,7 @@
 -- The form of a model is read as that model.
 use Rattle.std.proofs.Common.{◌≡◌, refl, ℕ, Bool, true, ◌&&◌, List, [], ◌∷◌, map, codes, Ok, Some, None}
 use Rattle.std.specs.Fmt.{decimal}
+use Rattle.model_syntax.specs.Names.{Name}
 use Rattle.rup_base.specs.declared.arg.Place.{Place}
 use Rattle.rup_base.specs.Name.{is_name}
 use Rattle.rup_base.specs.Gather.{all_true}
@@ -17,7 +18,7 @@ use Rattle.model_syntax.specs.declared.program.Model.{Model}
 use Rattle.model_syntax.specs.Spelling.{stmt_spellable}
 use Rattle.rup_base.specs.Number as numbers
 use Rattle.model_reader.specs.Parts as parts
-use Rattle.model_reader.specs.Parts.{Answer, Reading, Name}
+use Rattle.model_reader.specs.Parts.{Answer, Reading}
 use Rattle.model_reader.specs.Reading.{reading, atom_reading}
 use Rattle.model_reader.specs.Models as models
 use Rattle.model_reader.specs.Models.{len, list_sort, list_param, atom_ret, list_ret, list_model, in_word}

@@ -1,5 +1,6 @@
 -- The form of a statement is read as that statement.
 use Rattle.std.proofs.Common.{◌≡◌, refl, sym, ◌∙◌, ap, subst, Bool, true, ◌&&◌, List, [], ◌∷◌, map, codes, Ok}
+use Rattle.model_syntax.specs.Names.{Name}
 use Rattle.rup_base.specs.declared.arg.Place.{Place}
 use Rattle.rup_base.specs.Name.{is_name}
 use Rattle.rup_base.specs.Gather.{all_true}
@@ -13,7 +14,7 @@ use Rattle.model_syntax.specs.declared.stmt.Stmt.TheOpen as s
 use Rattle.model_syntax.specs.declared.stmt.Stmt.TheVariants as v
 use Rattle.model_syntax.specs.Spelling.{expr_spellable, stmt_spellable, stmt_spellable_step}
 use Rattle.model_reader.specs.Parts as parts
-use Rattle.model_reader.specs.Parts.{Answer, Reading, Name, each}
+use Rattle.model_reader.specs.Parts.{Answer, Reading, each}
 use Rattle.model_reader.specs.Reading.{reading, atom_reading}
 use Rattle.model_reader.specs.Statements.{stmt, list_stmt}
 use Rattle.model_syntax.specs.Formed.{expr_formed, names_formed, facts_formed, stmt_formed, stmt_formed_step}

@@ -3,7 +3,7 @@ use Rattle.std.proofs.Common.{◌≡◌, refl, ℕ, zero, suc, Bool, true, false
 use Rattle.rup_base.specs.Name.{is_name, name_of}
 use Rattle.rup_base.specs.Gather.{all_true}
 use Rattle.rup_base.specs.declared.arg.Place.{Place}
-use Rattle.model_syntax.specs.Names.{same}
+use Rattle.model_syntax.specs.Names.{same, Name}
 use Rattle.model_syntax.specs.Formed.{numbers_formed, expr_formed, side_formed, fact_formed, facts_formed, names_formed, stmt_formed, param_formed, ret_formed, model_formed}
 use Rattle.model_syntax.specs.Spelling.{Spellable, expr_spellable, stmt_spellable, is_table}
 use Rattle.model_syntax.specs.declared.expr.Scalar.{Scalar}
@@ -15,7 +15,7 @@ use Rattle.model_syntax.specs.declared.program.Param.{Param}
 use Rattle.model_syntax.specs.declared.program.Ret.{Ret}
 use Rattle.model_syntax.specs.declared.program.Model.{Model}
 use Rattle.model_reader.specs.Parts as parts
-use Rattle.model_reader.specs.Parts.{Answer, Reading, Kind, Name, ◌>>=◌, known, form, nth, end, each, headed, behind}
+use Rattle.model_reader.specs.Parts.{Answer, Reading, Kind, ◌>>=◌, known, form, nth, end, each, headed, behind}
 use Rattle.model_reader.specs.Expressions as exprs
 use Rattle.model_reader.specs.Facts as facts
 use Rattle.model_reader.specs.Statements as stmts

@@ -1,5 +1,6 @@
 -- Statements, parameters, results and models that are read are formed, and their tables can be spelled.
 use Rattle.std.proofs.Common.{◌≡◌, refl, sym, ◌∙◌, ap, ℕ, ◌+◌, Bool, true, List, [], ◌∷◌, Ok, Option, Some, None, if◌then◌else◌, codes}
+use Rattle.model_syntax.specs.Names.{Name}
 use Rattle.rup_base.specs.Name.{is_name}
 use Rattle.rup_base.specs.declared.arg.Place.{Place}
 use Rattle.model_syntax.specs.Formed.{stmt_formed, stmt_formed_step, param_formed, ret_formed, len_formed}
@@ -18,7 +19,7 @@ use Rattle.model_reader.specs.declared.words.StmtWord.{StmtWord}
 use Rattle.model_reader.specs.declared.words.StmtWord.TheVariants as word
 use Rattle.rup_base.specs.Number as numbers
 use Rattle.model_reader.specs.Words.{scalar_of, array_of, stmt_word}
-use Rattle.model_reader.specs.Parts.{Reading, Name, nth, wrong, known}
+use Rattle.model_reader.specs.Parts.{Reading, nth, wrong, known}
 use Rattle.model_reader.specs.Statements.{stmt, let_of, put_of, move_of, carried, choice_of, if_of, for_of, range_of, map_of, fold_of, worded_stmt, list_stmt, block_of}
 use Rattle.model_reader.specs.Models.{len, in_word, scalar_param, array_param, atom_sort, array_of_length, list_sort, list_param, params_of, list_ret, atom_ret, rets_of, model_of, list_model, param, ret}
 use Rattle.model_reader.proofs.Gives.{Gives, given, refused, any, ◌⊳◌, tested, weaker, All}

@@ -1,5 +1,6 @@
 -- The rules of parameters, results and models.
 use Rattle.std.specs.Prelude.{ℕ, List, Ok, Some, None, codes, if◌then◌else◌}
+use Rattle.model_syntax.specs.Names.{Name}
 use Rattle.rup_base.specs.Name.{is_name, name_of}
 use Rattle.rup_base.specs.declared.arg.Place.{Place}
 use Rattle.model_syntax.specs.declared.expr.Scalar.{Scalar}
@@ -15,7 +16,7 @@ use Rattle.model_syntax.specs.declared.program.Model.{Model}
 use Rattle.rup_base.specs.Number as numbers
 use Rattle.model_reader.specs.Words.{scalar_of, array_of}
 use Rattle.model_reader.specs.Statements.{block}
-use Rattle.model_reader.specs.Parts.{Answer, Reading, Kind, Rule, Name, ◌>>=◌, wrong, nth, end, headed, behind, each, alone, name, known, word}
+use Rattle.model_reader.specs.Parts.{Answer, Reading, Kind, Rule, ◌>>=◌, wrong, nth, end, headed, behind, each, alone, name, known, word}
 
 -- LEN
 abbrev pub len : Kind Len

@@ -3,7 +3,7 @@
 use Rattle.std.specs.Prelude.{ℕ, zero, suc, ◌-◌, List, [], ◌∷◌, Result, Ok, Err, Option, Some, None, if◌then◌else◌}
 use Rattle.rup_base.specs.Name.{name_of}
 use Rattle.rup_base.specs.declared.arg.Place.{Place}
-use Rattle.model_syntax.specs.Names.{same}
+use Rattle.model_syntax.specs.Names.{same, Name}
 use Rattle.model_syntax.specs.declared.expr.Scalar.{Scalar}
 use Rattle.model_syntax.specs.declared.expr.Expr.{Expr}
 use Rattle.model_syntax.specs.declared.stmt.Lin.{Lin}
@@ -13,9 +13,6 @@ use Rattle.model_syntax.specs.declared.program.Param.{Param}
 use Rattle.model_syntax.specs.declared.program.Ret.{Ret}
 use Rattle.model_syntax.specs.declared.program.Model.{Model}
 use Rattle.rup_base.specs.Number as numbers
-
-abbrev pub Name : Type 0
-Name = List ℕ
 
 -- what forms are read as, or the offset of the first form that is not of the kind that its place asks for
 abbrev pub Answer : Type 0 → Type 0
@@ -80,14 +77,14 @@ wrong p = Err p.start
 abbrev pub missing : {A : Type 0} → Place → Answer A
 missing p = Err (p.end - 1)
 
--- the form with a number
-abbrev pub form : ℕ → Rule Reading
+-- the form with a number; the forms of a list may be those of lemma files too
+abbrev pub form : {F : Type 0} → ℕ → Place → List F → Answer F
 form i p [] = missing p
 form zero p (f ∷ fs) = Ok f
 form (suc i) p (f ∷ fs) = form i p fs
 
 -- the form with a number, as a kind
-abbrev pub nth : {A : Type 0} → ℕ → Kind A → Rule A
+abbrev pub nth : {F A : Type 0} → ℕ → (F → Answer A) → Place → List F → Answer A
 nth i kind p fs = form i p fs >>= kind
 
 -- no form with this number
@@ -97,7 +94,7 @@ end zero (f ∷ fs) = wrong f.at
 end (suc i) (f ∷ fs) = end i fs
 
 -- each form, as one kind
-abbrev pub each : {A : Type 0} → Kind A → List Reading → Answer (List A)
+abbrev pub each : {F A : Type 0} → (F → Answer A) → List F → Answer (List A)
 each kind [] = Ok []
 each kind (f ∷ fs) = do
   a ← kind f
@@ -123,7 +120,7 @@ alone kind p fs = do
   Ok a
 
 -- at least one form, each of one kind
-abbrev pub some : {A : Type 0} → Kind A → Rule (List A)
+abbrev pub some : {F A : Type 0} → (F → Answer A) → Place → List F → Answer (List A)
 some kind p [] = missing p
 some kind p (f ∷ fs) = each kind (f ∷ fs)
 

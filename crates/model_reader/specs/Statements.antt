@@ -1,5 +1,6 @@
 -- The rules of statements.
 use Rattle.std.specs.Prelude.{ℕ, ◌+◌, List, Ok, codes}
+use Rattle.model_syntax.specs.Names.{Name}
 use Rattle.model_syntax.specs.declared.expr.Expr.{Expr}
 use Rattle.model_syntax.specs.declared.stmt.Le.{Le}
 use Rattle.model_syntax.specs.declared.stmt.Stmt.{Stmt}
@@ -8,7 +9,7 @@ use Rattle.model_reader.specs.declared.words.StmtWord.{StmtWord}
 use Rattle.model_reader.specs.declared.words.StmtWord.TheVariants as word
 use Rattle.model_reader.specs.Words.{stmt_word}
 use Rattle.model_reader.specs.Expressions.{expr}
-use Rattle.model_reader.specs.Parts.{Kind, Rule, Name, ◌>>=◌, nth, end, headed, behind, each, name, known}
+use Rattle.model_reader.specs.Parts.{Kind, Rule, ◌>>=◌, nth, end, headed, behind, each, name, known}
 
 abbrev pub names : Kind (List Name)
 names f = f.names

@@ -1,5 +1,6 @@
 -- What a model has a limit of: statements, the depth of expressions and of blocks, and the bytes of its tables.
 use Rattle.std.specs.Prelude.{ℕ, ◌+◌, ◌*◌, ◌≤◌, max, min, nat_le, map, sum, length, Option, Some, None, if◌then◌else◌}
+use Rattle.rup_base.specs.Word.{counted}
 use Rattle.rup_base.specs.Gather.{greatest}
 use Rattle.rup_base.specs.declared.refusal.Limit.{Limit}
 use Rattle.rup_base.specs.declared.refusal.Limit.TheVariants as limit
@@ -120,10 +121,6 @@ blocks m = greatest (map stmt_blocks m.body) + 1
 -- the bytes of all its tables
 abbrev pub tables : Model → ℕ
 tables m = sum (map stmt_tables m.body)
-
--- a count as a 32-bit number, which stays at its greatest value
-abbrev pub counted : ℕ → ℕ
-counted n = min n 4294967295
 
 -- the number after k, likewise
 abbrev pub next : ℕ → ℕ

@@ -1,22 +1,10 @@
 -- The results of operations and comparisons on words, numbers below 2^32.
 use Rattle.std.specs.Prelude.{ℕ, ◌+◌, ◌-◌, ◌*◌, ◌/◌, ◌%◌, ◌^◌, Bool, nat_eq, nat_lt, bit_and, bit_or, bit_xor, if◌then◌else◌}
-use Rattle.rup_base.specs.Word.{signed_less, high_product}
+use Rattle.rup_base.specs.Word.{signed_less, high_product, quotient, remainder, shift_signed}
 use Rattle.model_syntax.specs.declared.expr.Op.{Op}
 use Rattle.model_syntax.specs.declared.expr.Op.TheVariants as op
 use Rattle.model_syntax.specs.declared.expr.Cmp.{Cmp}
 use Rattle.model_syntax.specs.declared.expr.Cmp.TheVariants as cmp
-
--- the unsigned quotient, by zero the greatest word
-abbrev pub quotient : ℕ → ℕ → ℕ
-quotient a b = if nat_eq b 0 then 4294967295 else a / b
-
--- the unsigned remainder, by zero the dividend
-abbrev pub remainder : ℕ → ℕ → ℕ
-remainder a b = if nat_eq b 0 then a else a % b
-
--- a word shifted to the right by k with copies of its sign bit: where that bit is set, the complement is shifted
-abbrev pub shift_signed : ℕ → ℕ → ℕ
-shift_signed a k = if nat_lt a (2 ^ 31) then a / 2 ^ k else 4294967295 - (4294967295 - a) / 2 ^ k
 
 abbrev pub apply : Op → ℕ → ℕ → ℕ
 apply op.Add a b = (a + b) % 2 ^ 32

@@ -1,5 +1,6 @@
 //! What a model has a limit of. Each count stays at 4294967295 where it is greater.
 ghost use Rattle.std.specs.Prelude.{◌≡◌, ◌+◌, ◌*◌, ◌↔◌, max, map, sum, IsNone};
+ghost use Rattle.rup_base.specs.Word as words;
 ghost use Rattle.rup_base.specs.Gather.{greatest};
 ghost use Rattle.model_syntax.specs.Limits as spec;
 
@@ -19,28 +20,28 @@ const TABLES: u32 = 65536;
 
 /// All statements, inner ones too.
 pub fn statements(m: &Model) -> u32
-    ensures { result ≡ spec.counted (spec.statements m.now) }
+    ensures { result ≡ words.counted (spec.statements m.now) }
 {
     block_count(m.body.as_slice())
 }
 
 /// The greatest depth of an expression, 0 where there is none. A number, a name or a length has depth 1.
 pub fn expression_depth(m: &Model) -> u32
-    ensures { result ≡ spec.counted (spec.depth m.now) }
+    ensures { result ≡ words.counted (spec.depth m.now) }
 {
     block_expr_depth(m.body.as_slice())
 }
 
 /// The depth of nested blocks. The outer one has depth 1.
 pub fn block_depth(m: &Model) -> u32
-    ensures { result ≡ spec.counted (spec.blocks m.now) }
+    ensures { result ≡ words.counted (spec.blocks m.now) }
 {
     deepest_block(m.body.as_slice()).saturating_add(1)
 }
 
 /// The bytes of all tables: one for an entry of a byte table, four for one of a word table.
 pub fn table_bytes(m: &Model) -> u32
-    ensures { result ≡ spec.counted (spec.tables m.now) }
+    ensures { result ≡ words.counted (spec.tables m.now) }
 {
     block_tables(m.body.as_slice())
 }
@@ -71,7 +72,7 @@ pub fn over_limit(m: &Model) -> Option<(Limit, u32)>
 }
 
 fn expr_depth(e: &Expr) -> u32
-    ensures { result ≡ spec.counted (spec.expr_depth e.now) }
+    ensures { result ≡ words.counted (spec.expr_depth e.now) }
 {
     match e {
         Expr::Lit(_) | Expr::Var(_) | Expr::Length(_) => 1,
@@ -88,13 +89,13 @@ fn expr_depth(e: &Expr) -> u32
 }
 
 fn deeper(left: u32, right: u32) -> u32
-    ensures { result ≡ spec.counted (max left right + 1) }
+    ensures { result ≡ words.counted (max left right + 1) }
 {
     left.max(right).saturating_add(1)
 }
 
 fn expr_tables(e: &Expr) -> u32
-    ensures { result ≡ spec.counted (spec.expr_tables e.now) }
+    ensures { result ≡ words.counted (spec.expr_tables e.now) }
 {
     match e {
         Expr::Lit(_) | Expr::Var(_) | Expr::Length(_) => 0,
@@ -114,7 +115,7 @@ fn expr_tables(e: &Expr) -> u32
 
 /// The bytes of a table.
 fn size(scalar: Scalar, entries: usize) -> u32
-    ensures { result ≡ spec.counted (spec.entry_bytes scalar * entries) }
+    ensures { result ≡ words.counted (spec.entry_bytes scalar * entries) }
 {
     let entries = entries.min(u32::MAX as usize) as u32;
     match scalar {
@@ -126,7 +127,7 @@ fn size(scalar: Scalar, entries: usize) -> u32
 
 #[cycle(count)]
 fn stmt_count(s: &Stmt) -> u32
-    ensures { result ≡ spec.counted (spec.stmt_count s.now) }
+    ensures { result ≡ words.counted (spec.stmt_count s.now) }
 {
     match s {
         Stmt::If(_, _, _, first, second) => block_count(first.as_slice())
@@ -139,7 +140,7 @@ fn stmt_count(s: &Stmt) -> u32
 
 #[cycle(count)]
 fn block_count(stmts: &[Stmt]) -> u32
-    ensures { result ≡ spec.counted (sum (map spec.stmt_count stmts.now)) }
+    ensures { result ≡ words.counted (sum (map spec.stmt_count stmts.now)) }
 {
     let mut count: u32 = 0;
     for s in stmts {
@@ -150,7 +151,7 @@ fn block_count(stmts: &[Stmt]) -> u32
 
 #[cycle(depth)]
 fn stmt_expr_depth(s: &Stmt) -> u32
-    ensures { result ≡ spec.counted (spec.stmt_depth s.now) }
+    ensures { result ≡ words.counted (spec.stmt_depth s.now) }
 {
     match s {
         Stmt::Let(_, e) | Stmt::Map(_, _, e) | Stmt::Fold(_, _, _, e) => expr_depth(e),
@@ -167,7 +168,7 @@ fn stmt_expr_depth(s: &Stmt) -> u32
 
 #[cycle(depth)]
 fn block_expr_depth(stmts: &[Stmt]) -> u32
-    ensures { result ≡ spec.counted (greatest (map spec.stmt_depth stmts.now)) }
+    ensures { result ≡ words.counted (greatest (map spec.stmt_depth stmts.now)) }
 {
     let mut depth = 0;
     for s in stmts {
@@ -178,7 +179,7 @@ fn block_expr_depth(stmts: &[Stmt]) -> u32
 
 #[cycle(blocks)]
 fn stmt_blocks(s: &Stmt) -> u32
-    ensures { result ≡ spec.counted (spec.stmt_blocks s.now) }
+    ensures { result ≡ words.counted (spec.stmt_blocks s.now) }
 {
     match s {
         Stmt::If(_, _, _, first, second) => {
@@ -194,7 +195,7 @@ fn stmt_blocks(s: &Stmt) -> u32
 
 #[cycle(blocks)]
 fn deepest_block(stmts: &[Stmt]) -> u32
-    ensures { result ≡ spec.counted (greatest (map spec.stmt_blocks stmts.now)) }
+    ensures { result ≡ words.counted (greatest (map spec.stmt_blocks stmts.now)) }
 {
     let mut depth = 0;
     for s in stmts {
@@ -205,7 +206,7 @@ fn deepest_block(stmts: &[Stmt]) -> u32
 
 #[cycle(tables)]
 fn stmt_tables(s: &Stmt) -> u32
-    ensures { result ≡ spec.counted (spec.stmt_tables s.now) }
+    ensures { result ≡ words.counted (spec.stmt_tables s.now) }
 {
     match s {
         Stmt::Let(_, e) | Stmt::Map(_, _, e) | Stmt::Fold(_, _, _, e) => expr_tables(e),
@@ -223,7 +224,7 @@ fn stmt_tables(s: &Stmt) -> u32
 
 #[cycle(tables)]
 fn block_tables(stmts: &[Stmt]) -> u32
-    ensures { result ≡ spec.counted (sum (map spec.stmt_tables stmts.now)) }
+    ensures { result ≡ words.counted (sum (map spec.stmt_tables stmts.now)) }
 {
     let mut bytes: u32 = 0;
     for s in stmts {

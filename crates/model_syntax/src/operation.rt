@@ -1,9 +1,9 @@
 //! Operations and comparisons on words.
 ghost use Rattle.std.specs.Prelude.{◌≡◌, ◌<◌};
-ghost use Rattle.model_syntax.specs.Operation.{apply, holds, shift_signed};
+ghost use Rattle.model_syntax.specs.Operation.{apply, holds};
 
 use crate::expr::{Cmp, Op};
-use rup_base::{high_product, signed_less};
+use rup_base::{high_product, shift_signed, signed_less};
 
 /// The result of an operation.
 pub fn apply(op: Op, a: u32, b: u32) -> u32
@@ -23,13 +23,6 @@ pub fn apply(op: Op, a: u32, b: u32) -> u32
         Op::Shr => a >> (b & 31),
         Op::Sar => shift_signed(a, b & 31),
     }
-}
-
-fn shift_signed(a: u32, k: u32) -> u32
-    requires { k < 32 }
-    ensures { result ≡ shift_signed a k }
-{
-    if a < 0x8000_0000 { a >> k } else { !(!a >> k) }
 }
 
 /// Whether a comparison holds.

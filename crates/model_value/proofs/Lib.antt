@@ -1,11 +1,10 @@
-pub mod Bindings
-pub mod Places
-pub mod Overwrites
-pub mod Restored
+pub mod Entries
+pub mod Puts
 pub mod Changes
-pub mod Carried
+pub mod Restoring
+pub mod Alike
 pub mod Turns
+pub mod Runs
 pub mod Formed
 pub mod Sides
-pub mod Elements
 pub mod Soundness

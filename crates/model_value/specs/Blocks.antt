@@ -1,58 +1,42 @@
--- Blocks that run in the environment around them: which names they may change, and how the others come back.
-use Rattle.std.specs.Prelude.{ℕ, Bool, true, false, ◌&&◌, ◌||◌, List, [], ◌∷◌, map, set, Option, Some, None, is_some, if◌then◌else◌}
-use Rattle.model_syntax.specs.declared.scope.Binding.{Binding}
+-- The names that a block may change, and their values at its end.
+use Rattle.std.specs.Prelude.{◌≡◌, false, List, [], ◌∷◌, ◌++◌, fold, Option, if◌then◌else◌}
+use Rattle.rup_base.specs.declared.arg.Arg.{Arg}
 use Rattle.model_syntax.specs.declared.stmt.Stmt.{Stmt, Stmt-F, fold-Stmt}
 use Rattle.model_syntax.specs.declared.stmt.Stmt.TheOpen as s
 use Rattle.model_syntax.specs.Environment.{Env, value_of}
 use Rattle.model_syntax.specs.Names.{Name, same, listed}
 
--- the name may have another value after the statement: of a block's names only the listed ones
-abbrev pub changes_step : Stmt-F (Name → Bool) → Name → Bool
-changes_step (s.Let x a) y = same y x
-changes_step (s.Put a i v) y = same y a
-changes_step (s.Move b a i v) y = same y b
-changes_step (s.If test xs keep first second) y = listed y xs
-changes_step (s.For x low high xs keep body) y = listed y xs
-changes_step (s.Map a x v) y = same y a
-changes_step (s.Fold t a x v) y = same y t
+-- the names that may have other values after a statement: of a block's names only the listed ones
+abbrev pub changes_step : Stmt-F (List Name) → List Name
+changes_step (s.Let x a) = x ∷ []
+changes_step (s.Put a i v) = a ∷ []
+changes_step (s.Move b a i v) = b ∷ []
+changes_step (s.If test xs keep first second) = xs
+changes_step (s.For x low high xs keep body) = xs
+changes_step (s.Map a x v) = a ∷ []
+changes_step (s.Fold t a x v) = t ∷ []
 
-abbrev pub changes : Stmt → Name → Bool
-changes = fold-Stmt (Name → Bool) changes_step
+abbrev pub changes : Stmt → List Name
+changes = fold-Stmt (List Name) changes_step
 
--- the same of a block
-abbrev pub changed : List Stmt → Name → Bool
-changed [] y = false
-changed (w ∷ ws) y = changes w y || changed ws y
+-- the names with one more, unless it is listed or already there
+abbrev pub add : List Name → List Name → Name → List Name
+add xs back y = if listed y xs then back else (if listed y back then back else back ++ y ∷ [])
 
--- the name is the counter of the block's loop, if it is a loop's
-abbrev pub counts : Option Name → Name → Bool
-counts None y = false
-counts (Some x) y = same y x
+-- the names that a block may change and does not list: their values come back at its end
+abbrev pub come_back : List Name → List Stmt → List Name
+come_back xs ws = fold (λ back w. fold (add xs) back (changes w)) [] ws
 
--- the name may change in the block, and is not listed: its value comes back
-abbrev pub comes_back : Option Name → List Name → List Stmt → Name → Bool
-comes_back x xs ws y = if listed y xs then false else (counts x y || changed ws y)
+-- what names have: the values that were kept of some of them, of which the last counts, and else those of an environment
+abbrev pub handed_back : List Name → List (Option Arg) → (Name → Option Arg) → Name → Option Arg
+handed_back [] vs of = of
+handed_back (x ∷ xs) [] of = of
+handed_back (x ∷ xs) (v ∷ vs) of = handed_back xs vs (λ y. if same x y then v else of y)
 
--- what is kept aside of each binding
-abbrev pub aside : (Name → Bool) → Binding → Option Binding
-aside back b = if back b.name then Some b else None
+-- after a block the names that come back have their values from before it, and each other its value from the block's end
+abbrev pub Restores : List Name → Env → Env → Env → Type 0
+Restores back outer inner after = (y : Name) → value_of after y ≡ (if listed y back then value_of outer y else value_of inner y)
 
-abbrev pub all_aside : (Name → Bool) → Env → List (Option Binding)
-all_aside back env = map (aside back) env
-
--- the environment with what was kept aside, and without the names that are new
-abbrev pub restored : List (Option Binding) → Env → Env
-restored [] inner = []
-restored (old ∷ olds) [] = []
-restored (None ∷ olds) (c ∷ cs) = c ∷ restored olds cs
-restored (Some b ∷ olds) (c ∷ cs) = b ∷ restored olds cs
-
--- the environment with a binding that was kept aside, if it was
-abbrev pub put_back : ℕ → Option Binding → Env → Env
-put_back i None env = env
-put_back i (Some b) env = set env i b
-
--- each of the names has a value
-abbrev pub all_bound : List Name → Env → Bool
-all_bound [] env = true
-all_bound (x ∷ xs) env = is_some (value_of env x) && all_bound xs env
+-- all other names have the same values in both
+abbrev pub SameButFor : List Name → Env → Env → Type 0
+SameButFor hidden one two = (y : Name) → listed y hidden ≡ false → value_of one y ≡ value_of two y

@@ -1,4 +1,4 @@
-pub mod Places
+pub mod Bindings
 pub mod Refused
 pub mod Formed
 pub mod Blocks

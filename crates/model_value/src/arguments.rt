@@ -1,12 +1,12 @@
 //! Arguments and the environment that they make.
-ghost use Rattle.std.specs.Prelude.{◌≡◌, [], length, IfOk};
+ghost use Rattle.std.specs.Prelude.{◌≡◌, [], length, IfOk, OnOk};
 ghost use Rattle.rup_base.specs.Answers.{Answers};
 ghost use Rattle.model_syntax.specs.Value as spec;
 ghost use Rattle.model_value.specs.Refused.{refused};
 
-use crate::environment::{Environment, copy_value, put, size};
+use crate::environment::{Environment, copy_value, size};
 use model_syntax::{Len, Param, is_of_kind};
-use rup_base::{Arg, ArgFault, List, NoMemory};
+use rup_base::{Arg, ArgFault, NoMemory};
 use std::alloc::Global;
 
 /// There are as many arguments as parameters.
@@ -40,42 +40,37 @@ pub fn start(alloc: Global, params: &[Param], args: &[Arg]) -> Result<Environmen
     requires { length args.now ≡ length params.now }
     ensures { IfOk result (λ env. env ≡ spec.start params.now args.now []) }
 {
-    let mut env = List::new(alloc);
+    let mut env = Environment::new(alloc);
     for i in 0..params.len() {
-        env = bind_argument(alloc, env, &params[i], &args[i])?;
+        bind_argument(alloc, &mut env, &params[i], &args[i])?;
     }
     Ok(env)
 }
 
-/// The environment with a parameter's argument.
+/// Gives a parameter its argument.
 fn bind_argument(
     alloc: Global,
-    env: Environment,
+    env: &mut Environment,
     param: &Param,
     arg: &Arg,
-) -> Result<Environment, NoMemory>
-    ensures { IfOk result (λ after. after ≡ spec.bind_argument param.now arg.now env) }
+) -> Result<(), NoMemory>
+    ensures { OnOk result (env.new ≡ spec.bind_argument param.now arg.now env.old) }
 {
     match param {
-        Param::Word(x) | Param::Byte(x) => put(alloc, env, x, copy_value(alloc, arg)?),
+        Param::Word(x) | Param::Byte(x) => env.put(alloc, x, copy_value(alloc, arg)?),
         Param::Bytes(a, length) | Param::Words(a, length) => {
-            let env = put(alloc, env, a, copy_value(alloc, arg)?)?;
+            env.put(alloc, a, copy_value(alloc, arg)?)?;
             bind_length(alloc, env, length, size(Some(arg)))
         }
     }
 }
 
 /// A named length is the array's.
-fn bind_length(
-    alloc: Global,
-    env: Environment,
-    length: &Len,
-    n: u32,
-) -> Result<Environment, NoMemory>
-    ensures { IfOk result (λ after. after ≡ spec.bind_length length.now n env) }
+fn bind_length(alloc: Global, env: &mut Environment, length: &Len, n: u32) -> Result<(), NoMemory>
+    ensures { OnOk result (env.new ≡ spec.bind_length length.now n env.old) }
 {
     match length {
-        Len::Fixed(_) => Ok(env),
-        Len::Named(x) => put(alloc, env, x, Arg::Word(n)),
+        Len::Fixed(_) => Ok(()),
+        Len::Named(x) => env.put(alloc, x, Arg::Word(n)),
     }
 }

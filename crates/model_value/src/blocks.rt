@@ -1,136 +1,141 @@
-//! Blocks that run in the environment around them: what is kept aside for their ends.
-ghost use Rattle.std.specs.Prelude.{◌≡◌, ◌<◌, ◌≤◌, length, IfOk};
+//! Blocks change the environment around them: the names that they do not list come back at their ends.
+ghost use Rattle.std.specs.Prelude.{◌≡◌, [], fold, length, map, IfOk, OnOk};
 ghost use Rattle.std.specs.Option.{option_copied};
-ghost use Rattle.model_syntax.specs.Names.{listed};
+ghost use Rattle.model_syntax.specs.Environment.{value_of};
+ghost use Rattle.model_syntax.specs.Names.{Name as Letters, listed};
+ghost use Rattle.model_value.specs.Bindings.{Assigns};
 ghost use Rattle.model_value.specs.Blocks as spec;
 
-use crate::environment::{Environment, copy_value, value_of};
-use model_syntax::{Binding, Stmt};
-use rup_base::{List, Name, NoMemory};
+use crate::environment::{Environment, copy_value};
+use model_syntax::Stmt;
+use rup_base::{Arg, List, Name, NoMemory};
 use std::alloc::Global;
 use std::mem;
 
-/// The name is one of them.
-fn listed(y: &Name, names: &[Name]) -> bool
-    ensures { result ≡ listed y.now names.now }
+/// The names that a block may change and does not list.
+pub fn come_back(alloc: Global, names: &[Name], block: &[Stmt]) -> Result<List<Name>, NoMemory>
+    ensures { IfOk result (λ back. back ≡ spec.come_back names.now block.now) }
 {
-    for x in names {
-        if *y == *x {
-            return true;
-        }
+    let mut back = List::new(alloc);
+    for stmt in block {
+        add_changed(alloc, &mut back, names, stmt)?;
     }
-    false
+    Ok(back)
 }
 
-/// The name may have another value after the statement.
-fn changes(stmt: &Stmt, y: &Name) -> bool
-    ensures { result ≡ spec.changes stmt.now y.now }
+/// The counter of a loop, unless the loop lists it.
+pub fn counter(alloc: Global, names: &[Name], x: &Name) -> Result<List<Name>, NoMemory>
+    ensures { IfOk result (λ hidden. hidden ≡ spec.add names.now [] x.now) }
+{
+    let mut hidden = List::new(alloc);
+    add(alloc, &mut hidden, names, x)?;
+    Ok(hidden)
+}
+
+/// Adds the names that a statement may change.
+fn add_changed(
+    alloc: Global,
+    back: &mut List<Name>,
+    names: &[Name],
+    stmt: &Stmt,
+) -> Result<(), NoMemory>
+    ensures { OnOk result (back.new ≡ fold (spec.add names.now) back.old (spec.changes stmt.now)) }
 {
     match stmt {
-        Stmt::Let(x, _) => *y == *x,
-        Stmt::Put(a, _, _) => *y == *a,
-        Stmt::Move(b, _, _, _) => *y == *b,
-        Stmt::If(_, names, _, _, _) => listed(y, names.as_slice()),
-        Stmt::For(_, _, _, names, _, _) => listed(y, names.as_slice()),
-        Stmt::Map(a, _, _) => *y == *a,
-        Stmt::Fold(t, _, _, _) => *y == *t,
-    }
-}
-
-/// The same of a block.
-fn changed(stmts: &[Stmt], y: &Name) -> bool
-    ensures { result ≡ spec.changed stmts.now y.now }
-{
-    for stmt in stmts {
-        if changes(stmt, y) {
-            return true;
+        Stmt::Let(x, _)
+        | Stmt::Put(x, _, _)
+        | Stmt::Move(x, _, _, _)
+        | Stmt::Map(x, _, _)
+        | Stmt::Fold(x, _, _, _) => add(alloc, back, names, x),
+        Stmt::If(_, inner, _, _, _) | Stmt::For(_, _, _, inner, _, _) => {
+            add_all(alloc, back, names, inner.as_slice())
         }
     }
-    false
 }
 
-/// The name is the counter of the block's loop, if it is a loop's.
-fn counts(counter: Option<&Name>, y: &Name) -> bool
-    ensures { result ≡ spec.counts (option_copied counter.entry) y.now }
-{
-    match counter {
-        Some(x) => *y == *x,
-        None => false,
-    }
-}
-
-/// The name's value comes back at the end of the block.
-fn comes_back(counter: Option<&Name>, names: &[Name], block: &[Stmt], y: &Name) -> bool
-    ensures { result ≡ spec.comes_back (option_copied counter.entry) names.now block.now y.now }
-{
-    !listed(y, names) && (counts(counter, y) || changed(block, y))
-}
-
-/// What is kept aside of each binding.
-pub fn all_aside(
+fn add_all(
     alloc: Global,
-    counter: Option<&Name>,
+    back: &mut List<Name>,
     names: &[Name],
-    block: &[Stmt],
-    env: &[Binding],
-) -> Result<List<Option<Binding>>, NoMemory>
-    ensures { IfOk result (λ kept. kept ≡ spec.all_aside (spec.comes_back (option_copied counter.entry) names.now block.now) env.now) }
+    inner: &[Name],
+) -> Result<(), NoMemory>
+    ensures { OnOk result (back.new ≡ fold (spec.add names.now) back.old inner.now) }
+{
+    for x in inner {
+        add(alloc, back, names, x)?;
+    }
+    Ok(())
+}
+
+/// Adds a name, unless it is listed or already there.
+fn add(alloc: Global, back: &mut List<Name>, names: &[Name], x: &Name) -> Result<(), NoMemory>
+    ensures { OnOk result (back.new ≡ spec.add names.now back.old x.now) }
+{
+    if !is_listed(x, names) && !is_listed(x, back.as_slice()) {
+        back.push(x.copy(alloc)?)?;
+    }
+    Ok(())
+}
+
+/// The name is one of them.
+fn is_listed(x: &Name, names: &[Name]) -> bool
+    ensures { result ≡ listed x.now names.now }
+{
+    names.iter().any(|name| x == name)
+}
+
+/// The values of names, which are kept aside.
+pub fn aside(alloc: Global, back: &[Name], env: &Environment) -> Result<List<Option<Arg>>, NoMemory>
+    ensures { IfOk result (λ kept. kept ≡ map (value_of env.now) back.now) }
 {
     let mut kept = List::new(alloc);
-    for binding in env {
-        if comes_back(counter, names, block, &binding.name) {
-            kept.push(Some(copied(alloc, binding)?))?;
-        } else {
-            kept.push(None)?;
-        }
+    for x in back {
+        kept.push(copied(alloc, env.get(x))?)?;
     }
     Ok(kept)
 }
 
-fn copied(alloc: Global, binding: &Binding) -> Result<Binding, NoMemory>
-    ensures { IfOk result (λ copy. copy ≡ binding.now) }
+fn copied(alloc: Global, value: Option<&Arg>) -> Result<Option<Arg>, NoMemory>
+    ensures { IfOk result (λ copy. copy ≡ option_copied value.entry) }
 {
-    let name = binding.name.copy(alloc)?;
-    let value = copy_value(alloc, &binding.value)?;
-    Ok(Binding { name, value })
+    match value {
+        Some(arg) => Ok(Some(copy_value(alloc, arg)?)),
+        None => Ok(None),
+    }
 }
 
-/// The environment with what was kept aside, and without the names that are new.
-
-pub fn restored(kept: List<Option<Binding>>, inner: Environment) -> Environment
-    requires { length kept ≤ length inner }
-    ensures { result ≡ spec.restored kept inner }
+/// Gives names the values that were kept aside of them.
+pub fn restore(
+    alloc: Global,
+    env: &mut Environment,
+    back: &[Name],
+    kept: List<Option<Arg>>,
+) -> Result<(), NoMemory>
+    requires { length kept ≡ length back.now }
+    ensures { OnOk result ((y : Letters) → value_of env.new y ≡ spec.handed_back back.now kept (value_of env.old) y) }
 {
     let mut kept = kept.into_vec();
-    let mut bindings = inner.into_vec();
-    for i in 0..kept.len() {
-        let old = mem::replace(&mut kept[i], None);
-        bindings = put_back(bindings, i, old);
+    for i in 0..back.len() {
+        let value = mem::replace(&mut kept[i], None);
+        put_back(alloc, env, &back[i], value)?;
     }
-    bindings.truncate(kept.len());
-    List::from_vec(bindings)
+    Ok(())
 }
 
-/// The bindings with one that was kept aside, if it was.
-fn put_back(bindings: Vec<Binding>, i: usize, old: Option<Binding>) -> Vec<Binding>
-    requires { i < length bindings.items }
-    ensures { result.items ≡ spec.put_back i old bindings.items }
+#[tactic(auto, using(crate::proofs::Puts::put_assigns))]
+fn put_back(
+    alloc: Global,
+    env: &mut Environment,
+    x: &Name,
+    value: Option<Arg>,
+) -> Result<(), NoMemory>
+    ensures { OnOk result (Assigns x.now value env.old env.new) }
 {
-    let mut after = bindings;
-    if let Some(binding) = old {
-        after[i] = binding;
-    }
-    after
-}
-
-/// Each of the names has a value.
-pub fn all_bound(names: &[Name], env: &[Binding]) -> bool
-    ensures { result ≡ spec.all_bound names.now env.now }
-{
-    for x in names {
-        if value_of(env, x).is_none() {
-            return false;
+    match value {
+        Some(arg) => env.put(alloc, x, arg),
+        None => {
+            env.remove(x);
+            Ok(())
         }
     }
-    true
 }

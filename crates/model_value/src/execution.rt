@@ -1,33 +1,36 @@
-//! What statements do to an environment.
-ghost use Rattle.std.specs.Prelude.{◌≡◌, map, fold, IfOk};
+//! What statements do to an environment, which changes in place.
+ghost use Rattle.std.specs.Prelude.{◌≡◌, ◌%◌, map, fold, IfOk, OnOk};
 ghost use Rattle.std.specs.Option.{option_copied};
-ghost use Rattle.model_syntax.specs.Environment.{carry, elements};
+ghost use Rattle.rup_base.specs.declared.arg.Arg.{Arg};
+ghost use Rattle.model_syntax.specs.Environment.{carry, elements, put};
 ghost use Rattle.model_syntax.specs.Value as spec;
+ghost use Rattle.model_value.specs.Bindings.{SameValues};
+ghost use Rattle.model_value.specs.Blocks.{Restores};
 
-use crate::blocks::{all_aside, all_bound, restored};
-use crate::environment::{
-    Environment, carry, copy_environment, copy_value, count, element, elements, low_bytes, number,
-    put, put_element, value_of, with_element,
-};
-use crate::evaluation::eval;
+use crate::blocks::{aside, come_back, counter, restore};
+use crate::environment::{Environment, copy_value, count, element, number, with_element};
+use crate::evaluation::{Local, eval};
 use model_syntax::{Expr, Stmt};
-use rup_base::{Arg, List, Name, NoMemory};
+use rup_base::{Arg, List, Name, NoMemory, Text};
 use std::alloc::Global;
 
-/// The environment after a statement.
+/// Runs a statement.
 #[cycle(run)]
-fn run_stmt(alloc: Global, env: Environment, stmt: &Stmt) -> Result<Environment, NoMemory>
-    ensures { IfOk result (λ after. after ≡ spec.run stmt.now env) }
+fn run_stmt(alloc: Global, env: &mut Environment, stmt: &Stmt) -> Result<(), NoMemory>
+    ensures { OnOk result (SameValues env.new (spec.run stmt.now env.old)) }
 {
     match stmt {
         Stmt::Let(x, e) => {
-            let value = Arg::Word(eval(e, env.as_slice()));
-            put(alloc, env, x, value)
+            let value = Arg::Word(eval(e, env, &[]));
+            env.put(alloc, x, value)
         }
-        Stmt::Put(a, i, e) => run_put(alloc, env, a, i, e),
+        Stmt::Put(a, i, e) => {
+            run_put(env, a, i, e);
+            Ok(())
+        }
         Stmt::Move(b, a, i, e) => run_move(alloc, env, b, a, i, e),
         Stmt::If(test, names, _, first, second) => {
-            let block = if eval(test, env.as_slice()) == 0 {
+            let block = if eval(test, env, &[]) == 0 {
                 second
             } else {
                 first
@@ -35,8 +38,8 @@ fn run_stmt(alloc: Global, env: Environment, stmt: &Stmt) -> Result<Environment,
             run_inside(alloc, env, names.as_slice(), block.as_slice())
         }
         Stmt::For(x, low, high, names, _, body) => {
-            let low = eval(low, env.as_slice());
-            let high = eval(high, env.as_slice());
+            let low = eval(low, env, &[]);
+            let high = eval(high, env, &[]);
             run_loop(alloc, env, x, low, high, names.as_slice(), body.as_slice())
         }
         Stmt::Map(a, x, e) => run_map(alloc, env, a, x, e),
@@ -44,194 +47,187 @@ fn run_stmt(alloc: Global, env: Environment, stmt: &Stmt) -> Result<Environment,
     }
 }
 
-/// The environment after a block.
+/// Runs a block.
 #[cycle(run)]
-pub fn run_block(alloc: Global, env: Environment, stmts: &[Stmt]) -> Result<Environment, NoMemory>
-    ensures { IfOk result (λ after. after ≡ spec.in_turn (map spec.run stmts.now) env) }
+pub fn run_block(alloc: Global, env: &mut Environment, stmts: &[Stmt]) -> Result<(), NoMemory>
+    ensures { OnOk result (SameValues env.new (spec.in_turn (map spec.run stmts.now) env.old)) }
 {
-    let mut after = env;
     for stmt in stmts {
-        after = run_stmt(alloc, after, stmt)?;
+        run_stmt(alloc, env, stmt)?;
     }
-    Ok(after)
+    Ok(())
 }
 
-/// The environment after a block of which only the listed names carry over. Where each of them has a value before,
-/// the block runs in the environment itself, and the other names that it may change are kept aside.
+/// Runs a block of which only the listed names carry over.
 #[cycle(run)]
-#[tactic(auto, using(crate::proofs::Carried::block_carried, crate::proofs::Carried::block_longer))]
 fn run_inside(
     alloc: Global,
-    env: Environment,
+    env: &mut Environment,
     names: &[Name],
     block: &[Stmt],
-) -> Result<Environment, NoMemory>
-    ensures { IfOk result (λ after. after ≡ carry names.now (spec.in_turn (map spec.run block.now) env) env) }
+) -> Result<(), NoMemory>
+    ensures { OnOk result (SameValues env.new (carry names.now (spec.in_turn (map spec.run block.now) env.old) env.old)) }
 {
-    if !all_bound(names, env.as_slice()) {
-        let inner = copy_environment(alloc, env.as_slice())?;
-        let inner = run_block(alloc, inner, block)?;
-        return carry(alloc, names, inner.as_slice(), env);
-    }
-    let kept = all_aside(alloc, None, names, block, env.as_slice())?;
-    let inner = run_block(alloc, env, block)?;
-    Ok(restored(kept, inner))
+    let back = come_back(alloc, names, block)?;
+    let kept = aside(alloc, back.as_slice(), env)?;
+    run_block(alloc, env, block)?;
+    restore(alloc, env, back.as_slice(), kept)
 }
 
-/// The environment after a turn of a body for each number from `low` to `high` - 1.
+/// Runs a turn of a body for each number from `low` to `high` - 1. Each turn begins with its own number in the counter, so
+/// that the counter's value from before the loop comes back once, at the end.
 #[cycle(run)]
-#[tactic(auto, using(crate::proofs::Turns::numbers_more))]
 fn run_loop(
     alloc: Global,
-    env: Environment,
+    env: &mut Environment,
     x: &Name,
     low: u32,
     high: u32,
     names: &[Name],
     body: &[Stmt],
-) -> Result<Environment, NoMemory>
-    ensures { IfOk result (λ after. after ≡ spec.folded (spec.loop_turn x.now names.now (map spec.run body.now)) (spec.numbers low high) env) }
+) -> Result<(), NoMemory>
+    ensures { OnOk result (SameValues env.new (spec.folded (spec.loop_turn x.now names.now (map spec.run body.now)) (spec.numbers low high) env.old)) }
 {
-    let mut after = env;
+    let hidden = counter(alloc, names, x)?;
+    let back = come_back(alloc, names, body)?;
+    let kept = aside(alloc, hidden.as_slice(), env)?;
     for i in low..high {
-        after = run_turn(alloc, after, x, i, names, body)?;
+        run_turn(alloc, env, x, i, back.as_slice(), body)?;
     }
-    Ok(after)
+    restore(alloc, env, hidden.as_slice(), kept)
 }
 
-/// A turn likewise: the counter's value comes back too.
+/// Runs a turn, after which the names that come back have their values from before it. The counter keeps its number.
 #[cycle(run)]
-#[tactic(auto, using(crate::proofs::Carried::turn_carried, crate::proofs::Carried::turn_longer))]
 fn run_turn(
     alloc: Global,
-    env: Environment,
+    env: &mut Environment,
     x: &Name,
     i: u32,
-    names: &[Name],
+    back: &[Name],
     body: &[Stmt],
-) -> Result<Environment, NoMemory>
-    ensures { IfOk result (λ after. after ≡ spec.loop_turn x.now names.now (map spec.run body.now) i env) }
+) -> Result<(), NoMemory>
+    ensures { OnOk result (Restores back.now env.old (spec.in_turn (map spec.run body.now) (put x.now (Arg.Word i) env.old)) env.new) }
 {
-    if !all_bound(names, env.as_slice()) {
-        let inner = copy_environment(alloc, env.as_slice())?;
-        let inner = put(alloc, inner, x, Arg::Word(i))?;
-        let inner = run_block(alloc, inner, body)?;
-        return carry(alloc, names, inner.as_slice(), env);
-    }
-    let kept = all_aside(alloc, Some(x), names, body, env.as_slice())?;
-    let inner = put(alloc, env, x, Arg::Word(i))?;
-    let inner = run_block(alloc, inner, body)?;
-    Ok(restored(kept, inner))
+    let kept = aside(alloc, back, env)?;
+    env.put(alloc, x, Arg::Word(i))?;
+    run_block(alloc, env, body)?;
+    restore(alloc, env, back, kept)
 }
 
-fn run_put(
-    alloc: Global,
-    env: Environment,
-    a: &Name,
-    index: &Expr,
-    e: &Expr,
-) -> Result<Environment, NoMemory>
-    ensures { IfOk result (λ after. after ≡ spec.element_put a.now a.now index.now e.now env) }
+/// Puts an element into an array, where it stands.
+fn run_put(env: &mut Environment, a: &Name, index: &Expr, e: &Expr)
+    ensures { env.new ≡ spec.element_put a.now a.now index.now e.now env.old }
 {
-    let i = eval(index, env.as_slice());
-    let n = eval(e, env.as_slice());
-    put_element(alloc, env, a, i, n)
+    let i = eval(index, env, &[]);
+    let n = eval(e, env, &[]);
+    env.put_element(a, i, n);
 }
 
-/// `b` becomes `a` with an element put.
+/// `b` becomes `a` with an element put; `a` keeps its value.
 fn run_move(
     alloc: Global,
-    env: Environment,
+    env: &mut Environment,
     b: &Name,
     a: &Name,
     index: &Expr,
     e: &Expr,
-) -> Result<Environment, NoMemory>
-    ensures { IfOk result (λ after. after ≡ spec.element_put b.now a.now index.now e.now env) }
+) -> Result<(), NoMemory>
+    ensures { OnOk result (env.new ≡ spec.element_put b.now a.now index.now e.now env.old) }
 {
-    let i = eval(index, env.as_slice());
-    let n = eval(e, env.as_slice());
-    let value = match value_of(env.as_slice(), a) {
-        None => return Ok(env),
+    let i = eval(index, env, &[]);
+    let n = eval(e, env, &[]);
+    let value = match env.get(a) {
+        None => return Ok(()),
         Some(value) => copy_value(alloc, value)?,
     };
-    put(alloc, env, b, with_element(value, i, n))
+    env.put(alloc, b, with_element(value, i, n))
 }
 
+/// Gives an array its new elements, which are made beside the old ones.
 fn run_map(
     alloc: Global,
-    env: Environment,
+    env: &mut Environment,
     a: &Name,
     x: &Name,
     e: &Expr,
-) -> Result<Environment, NoMemory>
-    ensures { IfOk result (λ after. after ≡ spec.array_mapped a.now x.now e.now env) }
+) -> Result<(), NoMemory>
+    ensures { OnOk result (env.new ≡ spec.array_mapped a.now x.now e.now env.old) }
 {
-    let inner = copy_environment(alloc, env.as_slice())?;
-    let words = elements(alloc, value_of(env.as_slice(), a))?;
-    let words = mapped(alloc, inner, x, e, words.as_slice())?;
-    let array = match value_of(env.as_slice(), a) {
-        None => return Ok(env),
+    let array = match env.get(a) {
+        None => return Ok(()),
         Some(Arg::Word(n)) => Arg::Word(*n),
-        Some(Arg::Bytes(_)) => Arg::Bytes(low_bytes(alloc, words.as_slice())?),
-        Some(Arg::Words(_)) => Arg::Words(words),
+        Some(Arg::Bytes(bytes)) => Arg::Bytes(mapped_bytes(alloc, env, x, e, bytes.as_slice())?),
+        Some(Arg::Words(words)) => Arg::Words(mapped_words(alloc, env, x, e, words.as_slice())?),
     };
-    put(alloc, env, a, array)
+    env.put(alloc, a, array)
 }
 
-/// The expression's value for each element.
-fn mapped(
+fn mapped_bytes(
     alloc: Global,
-    env: Environment,
+    env: &Environment,
     x: &Name,
     e: &Expr,
-    elements: &[u32],
-) -> Result<List<u32>, NoMemory>
-    ensures { IfOk result (λ mapped. mapped ≡ map (spec.element_of x.now e.now env) elements.now) }
+    bytes: &[u8],
+) -> Result<Text, NoMemory>
+    ensures { IfOk result (λ mapped. mapped ≡ map (λ n. n % 256) (map (spec.element_of x.now e.now env.now) bytes.now)) }
 {
-    let mut inner = env;
-    let mut mapped = List::new(alloc);
-    for element in elements {
-        inner = put(alloc, inner, x, Arg::Word(*element))?;
-        mapped.push(eval(e, inner.as_slice()))?;
+    let mut mapped = Text::from_vec(Vec::with_capacity(alloc, bytes.len())?);
+    for byte in bytes {
+        let number = u32::from(*byte);
+        let n = eval(e, env, &[Local { name: x, number }]);
+        mapped.push((n & 0xff) as u8)?;
+    }
+    Ok(mapped)
+}
+
+fn mapped_words(
+    alloc: Global,
+    env: &Environment,
+    x: &Name,
+    e: &Expr,
+    words: &[u32],
+) -> Result<List<u32>, NoMemory>
+    ensures { IfOk result (λ mapped. mapped ≡ map (spec.element_of x.now e.now env.now) words.now) }
+{
+    let mut mapped = List::from_vec(Vec::with_capacity(alloc, words.len())?);
+    for word in words {
+        let number = *word;
+        mapped.push(eval(e, env, &[Local { name: x, number }]))?;
     }
     Ok(mapped)
 }
 
 fn run_fold(
     alloc: Global,
-    env: Environment,
+    env: &mut Environment,
     t: &Name,
     a: &Name,
     x: &Name,
     e: &Expr,
-) -> Result<Environment, NoMemory>
-    ensures { IfOk result (λ after. after ≡ spec.array_folded t.now a.now x.now e.now env) }
+) -> Result<(), NoMemory>
+    ensures { OnOk result (env.new ≡ spec.array_folded t.now a.now x.now e.now env.old) }
 {
-    let inner = copy_environment(alloc, env.as_slice())?;
-    let start = number(value_of(env.as_slice(), t));
-    let end = folded(alloc, inner, t, x, e, start, value_of(env.as_slice(), a))?;
-    put(alloc, env, t, Arg::Word(end))
+    let start = number(env.get(t));
+    let end = folded(env, t, x, e, start, env.get(a));
+    env.put(alloc, t, Arg::Word(end))
 }
 
-/// The scalar after all elements.
-fn folded(
-    alloc: Global,
-    env: Environment,
-    t: &Name,
-    x: &Name,
-    e: &Expr,
-    start: u32,
-    array: Option<&Arg>,
-) -> Result<u32, NoMemory>
-    ensures { IfOk result (λ end. end ≡ fold (spec.fold_turn t.now x.now e.now env) start (elements (option_copied array.entry))) }
+/// The scalar after all elements, which are read where they stand.
+fn folded(env: &Environment, t: &Name, x: &Name, e: &Expr, start: u32, array: Option<&Arg>) -> u32
+    ensures { result ≡ fold (spec.fold_turn t.now x.now e.now env.now) start (elements (option_copied array.entry)) }
 {
-    let mut inner = env;
     let mut so_far = start;
     for i in 0..count(array) {
-        inner = put(alloc, inner, t, Arg::Word(so_far))?;
-        inner = put(alloc, inner, x, Arg::Word(element(array, i)))?;
-        so_far = eval(e, inner.as_slice());
+        let number = element(array, i);
+        let locals = [
+            Local { name: x, number },
+            Local {
+                name: t,
+                number: so_far,
+            },
+        ];
+        so_far = eval(e, env, &locals);
     }
-    Ok(so_far)
+    so_far
 }

@@ -6,10 +6,10 @@ ghost use Rattle.model_syntax.specs.Value as spec;
 ghost use Rattle.model_value.specs.Refused.{refused};
 
 use crate::arguments::{counts, fit, start};
-use crate::environment::{copy_value, number, value_of};
+use crate::environment::{Environment, copy_value, number};
 use crate::execution::run_block;
 use crate::requirements::all_met;
-use model_syntax::{Binding, Ret};
+use model_syntax::{Ret, Stmt};
 use model_types::Typed;
 use rup_base::{Arg, ArgFault, Args, Fail, List, NoMemory, Refusal, Results};
 use std::alloc::Global;
@@ -33,9 +33,18 @@ fn evaluate(alloc: Global, m: &Typed, args: &Args) -> Result<Results, Fail>
     judged(counts(params, args.as_slice()))?;
     judged(fit(params, args.as_slice()))?;
     let env = start(alloc, params, args.as_slice())?;
-    judged(all_met(model.requires_.as_slice(), env.as_slice()))?;
-    let end = run_block(alloc, env, model.body.as_slice())?;
-    Ok(results(alloc, end.as_slice(), model.rets.as_slice())?)
+    judged(all_met(model.requires_.as_slice(), &env))?;
+    Ok(ended(alloc, env, model.body.as_slice(), model.rets.as_slice())?)
+}
+
+/// The results after a body.
+#[tactic(auto, using(crate::proofs::Alike::results_alike))]
+fn ended(alloc: Global, env: Environment, body: &[Stmt], rets: &[Ret]) -> Result<Results, NoMemory>
+    ensures { IfOk result (λ all. all ≡ map (spec.result_of (spec.in_turn (map spec.run body.now) env)) rets.now) }
+{
+    let mut end = env;
+    run_block(alloc, &mut end, body)?;
+    results(alloc, &end, rets)
 }
 
 fn judged(found: Result<(), ArgFault>) -> Result<(), Fail>
@@ -47,7 +56,7 @@ fn judged(found: Result<(), ArgFault>) -> Result<(), Fail>
     }
 }
 
-fn results(alloc: Global, end: &[Binding], rets: &[Ret]) -> Result<Results, NoMemory>
+fn results(alloc: Global, end: &Environment, rets: &[Ret]) -> Result<Results, NoMemory>
     ensures { IfOk result (λ all. all ≡ map (spec.result_of end.now) rets.now) }
 {
     let mut all = List::new(alloc);
@@ -57,12 +66,12 @@ fn results(alloc: Global, end: &[Binding], rets: &[Ret]) -> Result<Results, NoMe
     Ok(all)
 }
 
-fn result_of(alloc: Global, end: &[Binding], ret: &Ret) -> Result<Arg, NoMemory>
+fn result_of(alloc: Global, end: &Environment, ret: &Ret) -> Result<Arg, NoMemory>
     ensures { IfOk result (λ value. value ≡ spec.result_of end.now ret.now) }
 {
     match ret {
-        Ret::Scalar(x) => Ok(Arg::Word(number(value_of(end, x)))),
-        Ret::Array(a, _) => match value_of(end, a) {
+        Ret::Scalar(x) => Ok(Arg::Word(number(end.get(x)))),
+        Ret::Array(a, _) => match end.get(a) {
             Some(value) => copy_value(alloc, value),
             None => Ok(Arg::Word(0)),
         },

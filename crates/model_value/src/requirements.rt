@@ -4,20 +4,20 @@ ghost use Rattle.model_syntax.specs.Value as spec;
 ghost use Rattle.model_value.specs.Formed.{HasForm, Formed, Below};
 ghost use Rattle.model_value.specs.Refused.{refused};
 
-use crate::environment::{number, value_of};
-use model_syntax::{Binding, Le, Lin};
+use crate::environment::{Environment, number};
+use model_syntax::{Le, Lin};
 use rup_base::ArgFault;
 
 /// A side of a requirement. A side that keeps the limits of linear forms is less than 2^77.
 #[tactic(auto, using(crate::proofs::Sides::left_formed, crate::proofs::Sides::right_formed))]
-fn whole(side: &Lin, env: &[Binding]) -> u128
+fn whole(side: &Lin, env: &Environment) -> u128
     requires form { HasForm side.now }
     ensures value { result ≡ spec.whole side.now env.now }
     ensures below { Below side.now result }
 {
     match side {
         Lin::Const(n) => u128::from(*n),
-        Lin::Var(x) => u128::from(number(value_of(env, x))),
+        Lin::Var(x) => u128::from(number(env.get(x))),
         Lin::Sum(p, q) => whole(p, env) + whole(q, env),
         Lin::Scale(k, p) => product(*k, whole(p, env)),
     }
@@ -31,7 +31,7 @@ fn product(k: u32, n: u128) -> u128
 }
 
 /// A requirement holds.
-fn met(r: &Le, env: &[Binding]) -> bool
+fn met(r: &Le, env: &Environment) -> bool
     requires low { HasForm r.now.low }
     requires high { HasForm r.now.high }
     ensures { result ≡ spec.met r.now env.now }
@@ -40,7 +40,7 @@ fn met(r: &Le, env: &[Binding]) -> bool
 }
 
 /// The requirements hold, or the first that does not.
-pub fn all_met(requirements: &[Le], env: &[Binding]) -> Result<(), ArgFault>
+pub fn all_met(requirements: &[Le], env: &Environment) -> Result<(), ArgFault>
     requires formed { Formed requirements.now }
     ensures { refused result ≡ spec.all_met 0 requirements.now env.now }
 {

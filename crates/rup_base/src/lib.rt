@@ -22,10 +22,10 @@ pub use line::refusal_line;
 pub use list::List;
 pub use name::Name;
 pub use no_memory::NoMemory;
-pub use number::{number_of, numeral};
+pub use number::{hex_digit, number_of, numeral};
 pub use refusal::{ArgFault, Goal, Limit, Refusal, TextWhy, TypePlace, TypeWhy};
 pub use text::Text;
-pub use word::{high_product, signed_less};
+pub use word::{high_product, shift_signed, signed_less};
 
 #[cfg(test)]
 mod tests;

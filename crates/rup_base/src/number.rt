@@ -1,7 +1,8 @@
-//! Numbers as texts and words of a command line spell them.
-ghost use Rattle.std.specs.Prelude.{◌≡◌, ◌≤◌};
+//! Numbers and digits as texts and words of a command line spell them.
+ghost use Rattle.std.specs.Prelude.{◌≡◌, ◌≤◌, ◌<◌};
 ghost use Rattle.std.specs.Char.{digit_value};
 ghost use Rattle.rup_base.specs.Number as spec;
+ghost use Rattle.rup_base.specs.Spelling.{hex_digit};
 
 /// The value of a digit or a letter: 10 to 35 for a letter of either case, and 36 for another byte.
 fn digit_value(byte: u8) -> u32
@@ -75,5 +76,17 @@ pub fn number_of(text: &[u8]) -> Option<u32>
                 numeral(10, text)
             }
         }
+    }
+}
+
+/// The digit of a number below 16 to the base 16, of lower case.
+pub fn hex_digit(digit: u8) -> u8
+    requires { digit < 16 }
+    ensures { result ≡ hex_digit digit }
+{
+    if digit < 10 {
+        b'0' + digit
+    } else {
+        b'a' + (digit - 10)
     }
 }

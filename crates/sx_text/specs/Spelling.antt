@@ -1,17 +1,13 @@
 -- The canonical spelling of forms: one space between forms, none beside a parenthesis's inside.
 use Rattle.std.specs.Prelude.{◌≡◌, ℕ, ◌+◌, Bool, false, ◌&&◌, List, [], ◌∷◌, ◌++◌, Ok}
 use Rattle.std.specs.List.{list_all}
+use Rattle.rup_base.specs.Spelling.{behind_spaces}
 use Rattle.rup_base.specs.Gather.{greatest, all_true}
 use Rattle.sx_text.specs.Bytes.{in_atom}
 use Rattle.sx_text.specs.Forms.{place, read}
 use Rattle.sx_text.specs.declared.tree.Sx.{Sx, Sx-F, fold-Sx}
 use Rattle.sx_text.specs.declared.tree.Sx.TheVariants.{Atom, Kids}
 use Rattle.sx_text.specs.declared.tree.Sx.TheOpen as x
-
--- each text behind a space, 32
-abbrev pub behind_spaces : List (List ℕ) → List ℕ
-behind_spaces [] = []
-behind_spaces (t ∷ ts) = 32 ∷ t ++ behind_spaces ts
 
 -- texts with a space between each two
 abbrev pub spaced : List (List ℕ) → List ℕ

@@ -5,6 +5,8 @@ use Rattle.std.specs.FinMap.{get, insert}
 use Rattle.std.proofs.lemmas.Bool.{eqb-true}
 use Rattle.std.proofs.lemmas.Bool.Decides.{nat_tests}
 use Rattle.std.proofs.lemmas.List.{length-set}
+use Rattle.bed_meaning.specs.Fuelled.{and_then, in_turn, finish}
+use Rattle.rv_memory.specs.Ranges.{Bytes}
 use Rattle.rv_memory.proofs.laws.Numbers.{get-insert_same, get-insert_other}
 use Rattle.bed_syntax.specs.Weight.{expr_weight}
 use Rattle.bed_syntax.specs.declared.weights.Weights.{Weights}
@@ -14,10 +16,10 @@ use Rattle.bed_syntax.specs.declared.expression.BExpr.{BExpr}
 use Rattle.bed_syntax.specs.declared.command.Cmd.{Cmd, Cmd-F, roll-Cmd, map-Cmd, fold-roll-Cmd}
 use Rattle.bed_syntax.specs.declared.command.Cmd.TheOpen as c
 use Rattle.bed_meaning.specs.declared.halt.Halt.{Halt}
-use Rattle.bed_meaning.specs.Access.{Bytes, width, low_high, word, stored, where_some, store}
+use Rattle.bed_meaning.specs.Access.{width, low_high, word, stored, where_some, store}
 use Rattle.bed_meaning.specs.Locals.{Vars, assigned}
 use Rattle.bed_meaning.specs.State.{State}
-use Rattle.bed_meaning.specs.Meaning.{Rule, and_then, in_turn, loop_of, run_step, run, finish}
+use Rattle.bed_meaning.specs.Meaning.{Rule, loop_of, run_step, run}
 use Rattle.bed_meaning.specs.Runs.{Part, One, All, Loop, Runs, sets, stores, firsts, seconds, seqs, whiles, done, next, ends, turns, FuelFor, Shape}
 
 -- Fuel.

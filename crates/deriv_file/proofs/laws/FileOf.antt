@@ -16,10 +16,10 @@ use Rattle.rup_base.specs.declared.refusal.Refusal.TheVariants.{NotDerivation, O
 use Rattle.deriv_tree.specs.declared.tree.Derivation.{Derivation}
 use Rattle.deriv_tree.specs.declared.tree.Block.{Block, out-Block}
 use Rattle.deriv_tree.specs.declared.listed.Listed.{Listed}
-use Rattle.deriv_tree.specs.Shape.{IsWhole, block_shaped}
+use Rattle.deriv_tree.specs.Shape.{IsWhole, block_shaped, most_nodes}
 use Rattle.deriv_tree.specs.Measure.{block_size, block_depth}
 use Rattle.deriv_tree.specs.Preorder.{preorder, block_list}
-use Rattle.deriv_file.specs.Numbers.{most_nodes, only_if}
+use Rattle.deriv_file.specs.Numbers.{only_if}
 use Rattle.deriv_file.specs.NodeList.{nodes_of, all_nodes}
 use Rattle.deriv_file.specs.Places.{outer_place}
 use Rattle.deriv_file.specs.Forest.{body_of}

@@ -5,8 +5,9 @@ use Rattle.std.proofs.lemmas.Bool.{eqb-true, leb-true, le-leb}
 use Rattle.std.proofs.lemmas.Nat.{and_comm, or_comm, xor_comm, and_mask, mul-mod_first, mul-mod_second}
 use Rattle.std.proofs.Math.Nat.{add_comm, mul_comm, mul_assoc}
 use Rattle.std.proofs.Math.Pow.{pow_mono}
+use Rattle.rup_base.specs.Word.{quotient}
 use Rattle.model_syntax.specs.Kinds.{is_word}
-use Rattle.model_syntax.specs.Operation.{apply, quotient}
+use Rattle.model_syntax.specs.Operation.{apply}
 use Rattle.model_syntax.specs.declared.expr.Op.{Op}
 use Rattle.model_syntax.specs.declared.expr.Op.TheVariants as op
 use Rattle.equations.specs.Equations.{is_neutral}

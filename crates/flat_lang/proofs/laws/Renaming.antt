@@ -2,6 +2,8 @@
 use Rattle.std.proofs.Common.{Bool, true, false, ◌||◌, ◌≡◌, refl, sym, ap, ◌∙◌, subst, ℕ, zero, suc, nat_eq, List, [], ◌∷◌, ◌++◌, map, Option, Some, None, Result, Ok, Err, slice_get, ◌⊎◌, inl, inr, arith}
 use Rattle.std.proofs.lemmas.Bool.{cases_eq}
 use Rattle.std.specs.FinMap.{get, insert}
+use Rattle.bed_meaning.specs.State.{spend, with_mem}
+use Rattle.bed_meaning.specs.Fuelled.{and_then, given, take_one, fuelled, choose, in_turn}
 use Rattle.rv_memory.proofs.laws.Numbers.{get-insert_same, get-insert_other}
 use Rattle.bed_syntax.specs.Operation.{apply}
 use Rattle.bed_syntax.specs.declared.weights.Weights.{Weights}
@@ -10,9 +12,9 @@ use Rattle.bed_meaning.specs.declared.halt.Halt.TheVariants.{Stuck, OutOfFuel}
 use Rattle.bed_meaning.specs.Access.{loaded, entry, store}
 use Rattle.flat_lang.specs.declared.flat.FStmt.{FStmt, FStmt-F, fold-roll-FStmt, map-FStmt, roll-FStmt, ind-FStmt}
 use Rattle.flat_lang.specs.declared.flat.FStmt.TheOpen as f
-use Rattle.flat_lang.specs.State.{State, Vars, spend, with_mem, with_var}
+use Rattle.flat_lang.specs.State.{State, Vars, with_var}
 use Rattle.flat_lang.specs.Meaning as flat
-use Rattle.flat_lang.specs.Meaning.{Rule, and_then, given, take_one, fuelled, choose, in_turn, turns, run_step, run, run_all}
+use Rattle.flat_lang.specs.Meaning.{Rule, turns, run_step, run, run_all}
 use Rattle.flat_lang.specs.Backwards.{Lives, Point, Walk, reads, sets, walks, turned, tested, walk_step, walk, code_walk}
 use Rattle.flat_lang.specs.Renamed.{renamed_step, renamed, code_renamed}
 

@@ -291,23 +291,35 @@ end_is : (m : Model) (c : Scope) (end : types.State) → types.at Params (types.
     → end_scope m ≡ end.1
 end_is m c end begins ends = rw (begins, ends) refl
 
-pub models_sound : ModelLaw
-models_sound m args well formed spelled meets =
+abbrev rest_formed : Model → Bool
+rest_formed m = facts_formed m.requires_ && (all_true (map stmt_formed m.body) && all_true (map ret_formed m.rets))
+
+-- at arguments that meet a model each name of a parameter has a value of its type
+pub starts_typed : (m : Model) (args : List Arg) (c : Scope) → model_formed m ≡ true → types.declare_params m.params [] ≡ Ok c → Meets m args
+    → (numbers : Name → ℕ) × IsTyped numbers c (model.start m.params args [])
+starts_typed m args c formed declared meets =
     let count = first_answered (model.counts m.params args) _ tt meets in
     let fit = first_answered (model.fit 0 m.params args) _ tt count.1.1 in
     let all_fit : AllFit m.params args = fit_all 0 m.params args (counts_ok m.params args count.0 count.1.0) fit.1.0 in
+    let f = and_parts (is_name m.name) (all_true (map param_formed m.params) && rest_formed m) formed in
+    let g = and_parts (all_true (map param_formed m.params)) (rest_formed m) f.1 in
+    let begun = all_begun m.params args (λ x. 0) [] c [] g.0 declared all_fit none_begun in
+    (begun.0, begun.1.typed)
+
+pub models_sound : ModelLaw
+models_sound m args well formed spelled meets =
     let start = first_answered (types.at Params (types.declare_params m.params [])) _ tt well in
     let required = first_answered (types.requirements 0 m.requires_ start.0) _ tt start.1.1 in
     let end = first_answered (types.in_turn (map types.stmt m.body) (0, start.0)) _ tt required.1.1 in
     let declared : types.declare_params m.params [] ≡ Ok start.0 = at_answered Params (types.declare_params m.params []) start.0 start.1.0 in
-    let f = and_parts (is_name m.name) (all_true (map param_formed m.params) && (facts_formed m.requires_ && (all_true (map stmt_formed m.body) && all_true (map ret_formed m.rets)))) formed in
-    let g = and_parts (all_true (map param_formed m.params)) (facts_formed m.requires_ && (all_true (map stmt_formed m.body) && all_true (map ret_formed m.rets))) f.1 in
+    let f = and_parts (is_name m.name) (all_true (map param_formed m.params) && rest_formed m) formed in
+    let g = and_parts (all_true (map param_formed m.params)) (rest_formed m) f.1 in
     let h = and_parts (facts_formed m.requires_) (all_true (map stmt_formed m.body) && all_true (map ret_formed m.rets)) g.1 in
     let body = and_parts (all_true (map stmt_formed m.body)) (all_true (map ret_formed m.rets)) h.1 in
-    let begun = all_begun m.params args (λ x. 0) [] start.0 [] g.0 declared all_fit none_begun in
-    let ended : IsTyped begun.0 end.0.1 (model.end_of m args) = body_keeps begun.0 m.body body.0 spelled 0 start.0 end.0 (model.start m.params args []) end.1.0 begun.1.typed in
+    let begun = starts_typed m args start.0 formed declared meets in
+    let ended : IsTyped begun.0 end.0.1 (model.end_of m args) = body_keeps begun.0 m.body body.0 spelled 0 start.0 end.0 (model.start m.params args []) end.1.0 begun.1 in
     let scope_is : end_scope m ≡ end.0.1 = end_is m start.0 end.0 start.1.0 end.1.0 in
-    rw scope_is (all_results begun.0 start.0 end.0.1 (model.start m.params args []) (model.end_of m args) begun.1.typed ended 0 [] m.rets end.1.1)
+    rw scope_is (all_results begun.0 start.0 end.0.1 (model.start m.params args []) (model.end_of m args) begun.1 ended 0 [] m.rets end.1.1)
 
 -- what the value of a model gives is sound
 pub value_sound : (m : Model) (args found : List Arg) → Well m → model_formed m ≡ true → Spellable m → model.value m args ≡ Ok found → IsSound m args found

@@ -3,9 +3,9 @@ use Rattle.std.proofs.Common.{◌≡◌, arith, ℕ, ◌-◌, ◌*◌, ◌/◌, 
 use Rattle.std.proofs.lemmas.Bool.{leb-true, le-leb}
 use Rattle.std.proofs.lemmas.Nat.{and_le_l, or_lt, xor_lt}
 use Rattle.std.proofs.Math.Nat.{div-le_self, mod-le, mul-le-mul}
-use Rattle.rup_base.specs.Word.{high_product}
+use Rattle.rup_base.specs.Word.{high_product, quotient, remainder, shift_signed}
 use Rattle.model_syntax.specs.Kinds.{is_word, is_byte}
-use Rattle.model_syntax.specs.Operation.{apply, quotient, remainder, shift_signed}
+use Rattle.model_syntax.specs.Operation.{apply}
 use Rattle.model_syntax.specs.declared.expr.Op.{Op}
 use Rattle.model_syntax.specs.declared.expr.Op.TheVariants as op
 

@@ -1,6 +1,7 @@
 -- What is printed is read back.
 use Rattle.std.proofs.Common.{◌≡◌, refl, sym, ◌∙◌, ap, subst, ℕ, suc, ◌+◌, ◌≤◌, nat_eq, true, false, List, [], ◌∷◌, ◌++◌, map, append_assoc, append-nil, length, length-append, arith, Result, Ok, None}
 use Rattle.std.proofs.lemmas.Grind.{common_steps}
+use Rattle.rup_base.specs.Spelling.{behind_spaces}
 use Rattle.rup_base.specs.declared.arg.Place.{Place}
 use Rattle.rup_base.specs.Gather.{greatest, all_true}
 use Rattle.rup_base.specs.declared.refusal.Refusal.{Refusal}
@@ -9,7 +10,7 @@ use Rattle.sx_text.specs.declared.tree.Sx.TheVariants.{Atom, Kids, rolls-Atom, r
 use Rattle.sx_text.specs.declared.tree.Sx.TheOpen as x
 use Rattle.sx_text.specs.Bytes.{word_length}
 use Rattle.sx_text.specs.Forms.{Rest, rest_of, fault, read, place, opened, closed, deepest}
-use Rattle.sx_text.specs.Spelling.{text, levels, is_spelled, bare, spaced, behind_spaces, IsReadBack}
+use Rattle.sx_text.specs.Spelling.{text, levels, is_spelled, bare, spaced, IsReadBack}
 use Rattle.sx_text.proofs.laws.Atoms.{and_parts, rest_of-atom, fault-atom}
 use Rattle.sx_text.proofs.laws.Layers.{text-Atom, text-Kids, levels-Kids, is_spelled-Atom, is_spelled-Kids, bare-Atom, bare-Kids}
 

@@ -1,10 +1,11 @@
 use Rattle.std.proofs.Common.{rules, arith, sym, ap, ◌∙◌, ◌≡◌, suc, ◌+◌, ◌-◌, ◌<◌, Some, Err}
 use Rattle.std.proofs.lemmas.Grind.{common_steps}
+use Rattle.bed_meaning.specs.Fuelled.{and_then}
 use Rattle.bed_syntax.specs.Weight.{expr_weight}
 use Rattle.bed_meaning.specs.declared.halt.Halt.{Halt}
 use Rattle.bed_meaning.specs.Value.{value}
 use Rattle.bed_meaning.specs.State.{State, state_of}
-use Rattle.bed_meaning.specs.Meaning.{Rule, and_then, loop_of}
+use Rattle.bed_meaning.specs.Meaning.{Rule, loop_of}
 use Rattle.bed_meaning.specs.Meaning as spec
 use Rattle.bed_meaning.proofs.Turn.{goes_round}
 use Rattle.bed_meaning.proofs.execution.+run.Goals as goal

@@ -1,7 +1,8 @@
 use Rattle.std.proofs.Common.{◌≡◌, ◌+◌, ◌-◌, ◌*◌, ◌^◌, ◌<◌, ◌≤◌, map, sum, drop}
+use Rattle.bed_meaning.specs.Fuelled.{in_turn}
 use Rattle.bed_syntax.specs.Shape.{cmd_size}
 use Rattle.bed_meaning.specs.State.{state_of}
-use Rattle.bed_meaning.specs.Meaning.{in_turn, loop_of}
+use Rattle.bed_meaning.specs.Meaning.{loop_of}
 use Rattle.bed_meaning.specs.Meaning as spec
 use Rattle.bed_meaning.proofs.execution.+run.Given as goal
 

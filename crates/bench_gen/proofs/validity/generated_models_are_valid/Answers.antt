@@ -1,5 +1,5 @@
 use Rattle.std.proofs.Common.{arith}
-use Rattle.bench_gen.proofs.Valid.{well, formed, spellable, within, met}
+use Rattle.bench_gen.proofs.laws.Valid.{well, formed, spellable, within, met}
 use Rattle.bench_gen.proofs.validity.generated_models_are_valid.Goals as goal
 
 pub returns : goal.returns

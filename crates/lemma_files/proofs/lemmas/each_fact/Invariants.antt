@@ -1,6 +1,6 @@
 use Rattle.std.proofs.Common.{◌≡◌, map, drop, ◌++◌, Ok}
-use Rattle.model_reader.specs.Parts.{◌>>=◌}
-use Rattle.lemma_files.specs.Parts.{each, fact}
+use Rattle.model_reader.specs.Parts.{◌>>=◌, each}
+use Rattle.lemma_files.specs.Parts.{fact}
 use Rattle.lemma_files.specs.Reading.{part}
 use Rattle.lemma_files.proofs.lemmas.each_fact.Given as goal
 

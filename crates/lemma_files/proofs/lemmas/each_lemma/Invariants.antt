@@ -1,6 +1,5 @@
 use Rattle.std.proofs.Common.{◌≡◌, map, drop, ◌++◌, Ok}
-use Rattle.model_reader.specs.Parts.{◌>>=◌}
-use Rattle.lemma_files.specs.Parts.{each}
+use Rattle.model_reader.specs.Parts.{◌>>=◌, each}
 use Rattle.lemma_files.specs.Lemmas.{lemma}
 use Rattle.lemma_files.specs.Reading.{part}
 use Rattle.lemma_files.proofs.lemmas.each_lemma.Given as goal

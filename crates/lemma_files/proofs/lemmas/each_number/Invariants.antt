@@ -1,6 +1,6 @@
 use Rattle.std.proofs.Common.{◌≡◌, map, drop, ◌++◌, Ok}
-use Rattle.model_reader.specs.Parts.{◌>>=◌}
-use Rattle.lemma_files.specs.Parts.{each, number}
+use Rattle.model_reader.specs.Parts.{◌>>=◌, each}
+use Rattle.lemma_files.specs.Parts.{number}
 use Rattle.lemma_files.specs.Reading.{part}
 use Rattle.lemma_files.proofs.lemmas.each_number.Given as goal
 

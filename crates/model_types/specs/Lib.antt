@@ -1,3 +1,4 @@
 pub mod Checked
 pub mod Placed
 pub mod Copied
+pub mod Told

@@ -5,11 +5,12 @@ ghost use Rattle.model_syntax.specs.Names.{listed};
 ghost use Rattle.model_syntax.specs.Types as spec;
 ghost use Rattle.model_types.specs.Placed as placed;
 
+use crate::in_scope::{agreed, known, scalar_may_take};
 use crate::place::at;
-use crate::scope::{agreed, bind, copy_type, known, scalar_may_take};
+use crate::scope::Scope;
+use crate::shapes::copy_type;
 use indexmap::IndexSet;
-use model_syntax::Entry;
-use rup_base::{Fail, List, Name, TypePlace, TypeWhy};
+use rup_base::{Fail, Name, TypePlace, TypeWhy};
 use std::alloc::Global;
 
 fn listed(names: &[Name], x: &Name) -> bool
@@ -45,7 +46,7 @@ pub fn distinct(alloc: Global, place: TypePlace, names: &[Name]) -> Result<(), F
 pub fn distinct_known(
     alloc: Global,
     place: TypePlace,
-    scope: &[Entry],
+    scope: &Scope,
     names: &[Name],
 ) -> Result<(), Fail>
     ensures { Answers result (spec.at place (spec.distinct_known scope.now [] names.now)) }
@@ -76,10 +77,10 @@ pub fn joined(
     alloc: Global,
     place: TypePlace,
     names: &[Name],
-    one: &[Entry],
-    two: &[Entry],
-    scope: List<Entry>,
-) -> Result<List<Entry>, Fail>
+    one: &Scope,
+    two: &Scope,
+    scope: Scope,
+) -> Result<Scope, Fail>
     ensures { Answers result (spec.at place (spec.joined names.now one.now two.now scope)) }
 {
     joined_one_by_one(alloc, place, names, one, two, scope)
@@ -89,22 +90,22 @@ fn joined_one_by_one(
     alloc: Global,
     place: TypePlace,
     names: &[Name],
-    one: &[Entry],
-    two: &[Entry],
-    scope: List<Entry>,
-) -> Result<List<Entry>, Fail>
+    one: &Scope,
+    two: &Scope,
+    scope: Scope,
+) -> Result<Scope, Fail>
     ensures { Answers result (placed.joined place names.now one.now two.now scope) }
 {
     let mut after = scope;
     for x in names {
         let shape = at(place, agreed(one, two, x))?;
-        after = bind(alloc, after, x, copy_type(alloc, shape)?)?;
+        after = after.bind(alloc, x, copy_type(alloc, shape)?)?;
     }
     Ok(after)
 }
 
 /// The names have at the end of a block the types that they had before it.
-pub fn kept(names: &[Name], scope: &[Entry], end: &[Entry]) -> Result<(), TypeWhy>
+pub fn kept(names: &[Name], scope: &Scope, end: &Scope) -> Result<(), TypeWhy>
     ensures { result ≡ spec.kept names.now scope.now end.now }
 {
     for x in names {
@@ -114,7 +115,7 @@ pub fn kept(names: &[Name], scope: &[Entry], end: &[Entry]) -> Result<(), TypeWh
 }
 
 /// The counter of a loop.
-pub fn counter(scope: &[Entry], x: &Name, names: &[Name]) -> Result<(), TypeWhy>
+pub fn counter(scope: &Scope, x: &Name, names: &[Name]) -> Result<(), TypeWhy>
     ensures { result ≡ spec.counter x.now names.now scope.now }
 {
     if listed(names, x) {
@@ -124,7 +125,7 @@ pub fn counter(scope: &[Entry], x: &Name, names: &[Name]) -> Result<(), TypeWhy>
 }
 
 /// The element of a fold over the scalar `t`.
-pub fn folded_element(scope: &[Entry], t: &Name, x: &Name) -> Result<(), TypeWhy>
+pub fn folded_element(scope: &Scope, t: &Name, x: &Name) -> Result<(), TypeWhy>
     ensures { result ≡ spec.folded_element t.now x.now scope.now }
 {
     if t == x {

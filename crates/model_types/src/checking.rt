@@ -10,7 +10,6 @@ ghost use Rattle.model_types.specs.Checked.{checked, model_of};
 use crate::facts::requirements;
 use crate::params::declare_params;
 use crate::ret_type::check_results;
-use crate::scope::copy_scope;
 use crate::stmt_type::check_block;
 use crate::typed::Typed;
 use model_syntax::Model;
@@ -33,8 +32,7 @@ fn judge(alloc: Global, m: &Model) -> Result<(), Fail>
     ensures { Answers result (judge m.now) }
 {
     let start = declare_params(alloc, m.params.as_slice())?;
-    requirements(alloc, m.requires_.as_slice(), start.as_slice())?;
-    let scope = copy_scope(alloc, start.as_slice())?;
-    let end = check_block(alloc, (0, scope), m.body.as_slice())?;
-    check_results(alloc, start.as_slice(), end.1.as_slice(), m.rets.as_slice())
+    requirements(alloc, m.requires_.as_slice(), &start)?;
+    let end = check_block(alloc, 0, &start, m.body.as_slice())?;
+    check_results(alloc, &start, &end.1, m.rets.as_slice())
 }

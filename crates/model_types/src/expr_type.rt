@@ -2,12 +2,14 @@
 ghost use Rattle.std.specs.Prelude.{◌≡◌};
 ghost use Rattle.model_syntax.specs.ExprType as spec;
 
-use crate::scope::{element_in, same_scalar, scalar_in};
-use model_syntax::{Entry, Expr, Scalar};
+use crate::in_scope::{element_in, scalar_in};
+use crate::scope::Scope;
+use crate::shapes::same_scalar;
+use model_syntax::{Expr, Scalar};
 use rup_base::TypeWhy;
 
 /// The type of an expression in a scope, or its first fault in text order.
-pub fn type_of(scope: &[Entry], e: &Expr) -> Result<Scalar, TypeWhy>
+pub fn type_of(scope: &Scope, e: &Expr) -> Result<Scalar, TypeWhy>
     ensures { result ≡ spec.type_of e.now scope.now }
 {
     match e {

@@ -4,10 +4,11 @@ ghost use Rattle.rup_base.specs.Answers.{Answers};
 ghost use Rattle.rup_base.specs.declared.refusal.TypePlace.TheVariants.{Require};
 ghost use Rattle.model_syntax.specs.Types as spec;
 
+use crate::in_scope::scalar_in;
 use crate::linear::linear;
 use crate::place::at;
-use crate::scope::scalar_in;
-use model_syntax::{Entry, Le, Lin};
+use crate::scope::Scope;
+use model_syntax::{Le, Lin};
 use rup_base::{Fail, TypePlace, TypeWhy};
 use std::alloc::Global;
 
@@ -15,7 +16,7 @@ use std::alloc::Global;
 const REQUIREMENTS: u32 = 4096;
 
 /// The names in a side are scalars in scope.
-fn names_scalars(scope: &[Entry], side: &Lin) -> Result<(), TypeWhy>
+fn names_scalars(scope: &Scope, side: &Lin) -> Result<(), TypeWhy>
     ensures { result ≡ spec.names_scalars side.now scope.now }
 {
     match side {
@@ -33,7 +34,7 @@ fn names_scalars(scope: &[Entry], side: &Lin) -> Result<(), TypeWhy>
 }
 
 #[tactic(auto, using(crate::proofs::AtPlace::at_then))]
-fn fact(alloc: Global, place: TypePlace, r: &Le, scope: &[Entry]) -> Result<(), Fail>
+fn fact(alloc: Global, place: TypePlace, r: &Le, scope: &Scope) -> Result<(), Fail>
     ensures { Answers result (spec.at place (spec.fact r.now scope.now)) }
 {
     at(place, names_scalars(scope, &r.low))?;
@@ -44,7 +45,7 @@ fn fact(alloc: Global, place: TypePlace, r: &Le, scope: &[Entry]) -> Result<(), 
 }
 
 #[tactic(auto, using(crate::proofs::AtPlace::at_then))]
-pub fn facts(alloc: Global, place: TypePlace, rs: &[Le], scope: &[Entry]) -> Result<(), Fail>
+pub fn facts(alloc: Global, place: TypePlace, rs: &[Le], scope: &Scope) -> Result<(), Fail>
     ensures { Answers result (spec.at place (spec.facts rs.now scope.now)) }
 {
     for r in rs {
@@ -53,7 +54,7 @@ pub fn facts(alloc: Global, place: TypePlace, rs: &[Le], scope: &[Entry]) -> Res
     Ok(())
 }
 
-fn requirement(alloc: Global, k: u32, r: &Le, scope: &[Entry]) -> Result<(), Fail>
+fn requirement(alloc: Global, k: u32, r: &Le, scope: &Scope) -> Result<(), Fail>
     ensures { Answers result (spec.at (Require k) (spec.requirement k r.now scope.now)) }
 {
     if k < REQUIREMENTS {
@@ -63,7 +64,7 @@ fn requirement(alloc: Global, k: u32, r: &Le, scope: &[Entry]) -> Result<(), Fai
     }
 }
 
-pub fn requirements(alloc: Global, rs: &[Le], scope: &[Entry]) -> Result<(), Fail>
+pub fn requirements(alloc: Global, rs: &[Le], scope: &Scope) -> Result<(), Fail>
     ensures { Answers result (spec.requirements 0 rs.now scope.now) }
 {
     let mut k: u32 = 0;

@@ -5,11 +5,13 @@ mod carried;
 mod checking;
 mod expr_type;
 mod facts;
+mod in_scope;
 mod linear;
 mod params;
 mod place;
 mod ret_type;
 mod scope;
+mod shapes;
 mod stmt_type;
 mod typed;
 

@@ -5,9 +5,10 @@ ghost use Rattle.rup_base.specs.declared.refusal.TypePlace.TheVariants.{Params};
 ghost use Rattle.model_syntax.specs.Types as spec;
 
 use crate::place::at;
-use crate::scope::{bind, copy_length, look_up};
-use model_syntax::{Entry, Len, NameType, Param, Scalar};
-use rup_base::{Fail, List, Name, TypePlace, TypeWhy};
+use crate::scope::Scope;
+use crate::shapes::copy_length;
+use model_syntax::{Len, NameType, Param, Scalar};
+use rup_base::{Fail, Name, TypePlace, TypeWhy};
 use std::alloc::Global;
 
 /// The argument registers.
@@ -15,10 +16,10 @@ const REGISTERS: usize = 8;
 
 /// The scope that the parameters make. Each name is declared once and takes a register.
 #[tactic(auto, using(crate::proofs::AtPlace::at_then))]
-pub fn declare_params(alloc: Global, params: &[Param]) -> Result<List<Entry>, Fail>
+pub fn declare_params(alloc: Global, params: &[Param]) -> Result<Scope, Fail>
     ensures { Answers result (spec.at Params (spec.declare_params params.now [])) }
 {
-    let mut scope = List::new(alloc);
+    let mut scope = Scope::new(alloc);
     for param in params {
         let declared = declare_param(alloc, scope, param)?;
         scope = at(TypePlace::Params, registers(declared))?;
@@ -26,7 +27,7 @@ pub fn declare_params(alloc: Global, params: &[Param]) -> Result<List<Entry>, Fa
     Ok(scope)
 }
 
-fn registers(scope: List<Entry>) -> Result<List<Entry>, TypeWhy>
+fn registers(scope: Scope) -> Result<Scope, TypeWhy>
     ensures { result ≡ spec.registers scope }
 {
     if scope.len() <= REGISTERS {
@@ -37,7 +38,7 @@ fn registers(scope: List<Entry>) -> Result<List<Entry>, TypeWhy>
 }
 
 #[tactic(auto, using(crate::proofs::AtPlace::at_then))]
-fn declare_param(alloc: Global, scope: List<Entry>, param: &Param) -> Result<List<Entry>, Fail>
+fn declare_param(alloc: Global, scope: Scope, param: &Param) -> Result<Scope, Fail>
     ensures { Answers result (spec.at Params (spec.declare_param param.now scope)) }
 {
     match param {
@@ -57,7 +58,7 @@ fn declare_param(alloc: Global, scope: List<Entry>, param: &Param) -> Result<Lis
 }
 
 /// A length that has a name is a word.
-fn declare_length(alloc: Global, scope: List<Entry>, n: &Len) -> Result<List<Entry>, Fail>
+fn declare_length(alloc: Global, scope: Scope, n: &Len) -> Result<Scope, Fail>
     ensures { Answers result (spec.at Params (spec.declare_length n.now scope)) }
 {
     match n {
@@ -66,16 +67,11 @@ fn declare_length(alloc: Global, scope: List<Entry>, n: &Len) -> Result<List<Ent
     }
 }
 
-fn declare(
-    alloc: Global,
-    scope: List<Entry>,
-    x: &Name,
-    shape: NameType,
-) -> Result<List<Entry>, Fail>
+fn declare(alloc: Global, scope: Scope, x: &Name, shape: NameType) -> Result<Scope, Fail>
     ensures { Answers result (spec.at Params (spec.declare x.now shape scope)) }
 {
-    if look_up(scope.as_slice(), x).is_some() {
+    if scope.look_up(x).is_some() {
         return at(TypePlace::Params, Err(TypeWhy::Repeated));
     }
-    Ok(bind(alloc, scope, x, shape)?)
+    Ok(scope.bind(alloc, x, shape)?)
 }

@@ -5,9 +5,11 @@ ghost use Rattle.model_syntax.specs.Names.{listed};
 ghost use Rattle.rup_base.specs.declared.refusal.TypePlace.TheVariants.{Return};
 ghost use Rattle.model_syntax.specs.Types as spec;
 
+use crate::in_scope::{array_in, scalar_in};
 use crate::place::at;
-use crate::scope::{array_in, same_type, scalar_in};
-use model_syntax::{Entry, Ret};
+use crate::scope::Scope;
+use crate::shapes::same_type;
+use model_syntax::Ret;
 use rup_base::{Fail, Name, TypePlace, TypeWhy};
 use std::alloc::Global;
 
@@ -15,12 +17,7 @@ use std::alloc::Global;
 const SCALARS: usize = 2;
 
 /// Each result keeps the rules: `start` has the parameters, `scope` is the scope at the end.
-pub fn check_results(
-    alloc: Global,
-    start: &[Entry],
-    scope: &[Entry],
-    rets: &[Ret],
-) -> Result<(), Fail>
+pub fn check_results(alloc: Global, start: &Scope, scope: &Scope, rets: &[Ret]) -> Result<(), Fail>
     ensures { Answers result (spec.results start.now scope.now 0 [] rets.now) }
 {
     let mut k: u32 = 0;
@@ -35,8 +32,8 @@ pub fn check_results(
 fn check_result(
     alloc: Global,
     k: u32,
-    start: &[Entry],
-    scope: &[Entry],
+    start: &Scope,
+    scope: &Scope,
     before: &[Ret],
     ret: &Ret,
 ) -> Result<(), Fail>

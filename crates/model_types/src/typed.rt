@@ -12,6 +12,7 @@ use std::alloc::Global;
 /// A model that is well typed, within the limits, spellable and formed.
 #[derive(Debug, Drop)]
 pub struct Typed {
+    /// The model. It is public, since the contracts of the crates above cite it; `model` says what is known of it besides.
     pub inner: Model,
     ghost well: { Well inner },
     ghost within: { Within inner },

@@ -2,6 +2,7 @@
 use Rattle.std.specs.Prelude.{ℕ, ◌+◌, ◌/◌, ◌%◌, nat_eq, nat_lt, List, [], ◌∷◌, Option, Some, None, option_map, option_and_then, if◌then◌else◌}
 use Rattle.std.specs.List.{flat_map}
 use Rattle.std.specs.Int.{w32, to_be_bytes}
+use Rattle.rup_base.specs.Spelling.{hex_digit}
 use Rattle.rup_base.specs.Number.{numeral}
 
 -- what is behind a text that the bytes begin with
@@ -21,9 +22,6 @@ hex_bytes (high ∷ []) = None
 hex_bytes (high ∷ low ∷ digits) = option_and_then (λ b. option_map (λ bytes. b ∷ bytes) (hex_bytes digits)) (pair high low)
 
 -- Printed digits, of lower case.
-
-abbrev pub hex_digit : ℕ → ℕ
-hex_digit d = if nat_lt d 10 then 48 + d else 87 + d
 
 abbrev pub two_digits : ℕ → List ℕ
 two_digits b = hex_digit (b / 16) ∷ hex_digit (b % 16) ∷ []

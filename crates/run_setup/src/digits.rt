@@ -3,7 +3,7 @@ ghost use Rattle.std.specs.Prelude.{◌≡◌, ◌<◌, ◌++◌, IfOk, OnOk, op
 ghost use Rattle.std.specs.List.{flat_map};
 ghost use Rattle.run_setup.specs.Digits as spec;
 
-use rup_base::{NoMemory, Text, numeral};
+use rup_base::{NoMemory, Text, hex_digit, numeral};
 use std::alloc::Global;
 
 /// What is behind a text that the bytes begin with.
@@ -52,13 +52,6 @@ pub fn hex_bytes(alloc: Global, digits: &[u8]) -> Result<Option<Text>, NoMemory>
     } else {
         Ok(None)
     }
-}
-
-fn hex_digit(value: u8) -> u8
-    requires { value < 16 }
-    ensures { result ≡ spec.hex_digit value }
-{
-    if value < 10 { b'0' + value } else { 87 + value }
 }
 
 /// Prints a byte as two digits of lower case.

@@ -34,7 +34,7 @@ impl Machine {
         if self.pc % 4 != 0 {
             return Err(Cause::FetchMisaligned);
         }
-        let Some(word) = self.mem.get_four(self.pc) else {
+        let Some(word) = self.mem.fetch(self.pc) else {
             return Err(Cause::FetchOutside);
         };
         let Some(instruction) = decode(word) else {

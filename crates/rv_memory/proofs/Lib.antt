@@ -3,3 +3,4 @@ mod Lookup
 mod Several
 mod Found
 mod Stored
+pub mod Cut

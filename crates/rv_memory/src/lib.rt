@@ -1,10 +1,11 @@
-// The memory of the machine: bytes by their addresses, in regions. Contracts see a finite map, and nothing of the
-// regions (RISC-V Unprivileged ISA 20191213, section 1.4).
+// The memory of the machine: bytes by their addresses, in pages. Contracts see a finite map, and nothing of the
+// pages (RISC-V Unprivileged ISA 20191213, section 1.4).
 #![tactic(auto)]
 
 mod byte_map;
+mod cutting;
 mod numbers;
-mod region;
+mod page;
 
 pub use byte_map::Memory;
 

@@ -2,7 +2,7 @@ use Rattle.std.proofs.Common.{arith, subst, Result}
 use Rattle.rup_base.specs.Answers.{Answers}
 use Rattle.rup_base.specs.declared.refusal.Refusal.{Refusal}
 use Rattle.image_layout.specs.declared.image.Image.{Image}
-use Rattle.image_layout.proofs.Layouts.{is_found, is_read}
+use Rattle.image_layout.proofs.laws.Layouts.{is_found, is_read}
 use Rattle.image_layout.proofs.reading.read_image.Goals as goal
 
 pub returns-clause-found : goal.returns-clause-found

@@ -5,40 +5,40 @@ use Rattle.rv_memory.proofs.numbers.write_two.Goals as goal
 
 pub returns-in_default-clause-found : goal.returns-in_default-clause-found
 returns-in_default-clause-found c =
-    sym (ap is_some (number_none 1 c.args.at c.args.regions.now (sym c.find.ensures ∙ c.in_default.is)))
+    sym (ap is_some (number_none 1 c.args.at c.args.pages.now (sym c.find.ensures ∙ c.in_default.is)))
 
 pub overflow_sub-k : goal.overflow_sub-k
-overflow_sub-k c = found_low c.args.at c.args.regions.now c.in-Some.i c.index-regions-i.result (sym c.find.ensures ∙ c.in-Some.is)
+overflow_sub-k c = found_low c.args.at c.args.pages.now c.in-Some.i c.index-pages-i.result (sym c.find.ensures ∙ c.in-Some.is)
 
 pub overflow_sub-len : goal.overflow_sub-len
 overflow_sub-len c =
-    let high = found_high c.args.at c.args.regions.now c.in-Some.i c.index-regions-i.result (sym c.find.ensures ∙ c.in-Some.is) in
+    let high = found_high c.args.at c.args.pages.now c.in-Some.i c.index-pages-i.result (sym c.find.ensures ∙ c.in-Some.is) in
     omega (arith, high, c.len.ensures)
 
 pub returns-clause-found : goal.returns-clause-found
 returns-clause-found c =
-    let rs = c.args.regions.now in
+    let rs = c.args.pages.now in
     let i = c.in-Some.i in
     let e = sym c.find.ensures ∙ c.in-Some.is in
-    let r = get_or rs i c.index-regions-i.result in
+    let r = get_or rs i c.index-pages-i.result in
     let room : c.args.at - r.start + 2 ≤ length r.bytes.items =
     omega (arith, c.if-len-k-lt2.false, c.len.ensures, r.bytes.ok.0) in
-    sym (ap is_some (number_found 2 c.args.at rs i r c.requires.apart e (itself c.args.at rs i c.index-regions-i.result e) room) ∙ number_in_some 2 r.bytes.items (c.args.at - r.start) room)
+    sym (ap is_some (number_found 2 c.args.at rs i r c.requires.apart e (itself c.args.at rs i c.index-pages-i.result e) room) ∙ number_in_some 2 r.bytes.items (c.args.at - r.start) room)
 
 pub returns-clause-value : goal.returns-clause-value
 returns-clause-value c =
-    let rs = c.args.regions.now in
+    let rs = c.args.pages.now in
     let i = c.in-Some.i in
     let e = sym c.find.ensures ∙ c.in-Some.is in
-    let r = get_or rs i c.index-regions-i.result in
+    let r = get_or rs i c.index-pages-i.result in
     let room : c.args.at - r.start + 2 ≤ length r.bytes.items =
     omega (arith, c.if-len-k-lt2.false, c.len.ensures, r.bytes.ok.0) in
-    with_number_found 2 c.args.at c.args.value rs i r c.index-regions-i-2.result c.put_two.new.bytes c.requires.apart e (itself c.args.at rs i c.index-regions-i.result e) room (c.put_two.ensures ∙ ap (λ bytes. with_number_in bytes 2 (c.args.at - r.start) c.args.value) c.deref_mut.ensures.value)
+    with_number_found 2 c.args.at c.args.value rs i r c.index-pages-i-2.result c.put_two.new.bytes c.requires.apart e (itself c.args.at rs i c.index-pages-i.result e) room (c.put_two.ensures ∙ ap (λ bytes. with_number_in bytes 2 (c.args.at - r.start) c.args.value) c.deref_mut.ensures.value)
 
 pub returns-clause-apart : goal.returns-clause-apart
 returns-clause-apart c =
-    let rs = c.args.regions.now in
+    let rs = c.args.pages.now in
     let i = c.in-Some.i in
     let e = sym c.find.ensures ∙ c.in-Some.is in
-    let k = c.args.at - (get_or rs i c.index-regions-i.result).start in
-    apart_written 2 c.args.at c.args.value k rs i c.index-regions-i-2.result c.put_two.new.bytes e (c.put_two.ensures ∙ ap (λ bytes. with_number_in bytes 2 k c.args.value) c.deref_mut.ensures.value) c.requires.apart
+    let k = c.args.at - (get_or rs i c.index-pages-i.result).start in
+    apart_written 2 c.args.at c.args.value k rs i c.index-pages-i-2.result c.put_two.new.bytes e (c.put_two.ensures ∙ ap (λ bytes. with_number_in bytes 2 k c.args.value) c.deref_mut.ensures.value) c.requires.apart

@@ -10,12 +10,12 @@ returns-then-self-ne0-clause-made c = sym (step_misaligned (state_of c.args.self
 
 pub returns-in_default-clause-made : goal.returns-in_default-clause-made
 returns-in_default-clause-made c =
-    sym (step_fetched (state_of c.args.self.now) None c.if-self-ne0.false (sym c.in_default.is ∙ c.get_four.ensures))
+    sym (step_fetched (state_of c.args.self.now) None c.if-self-ne0.false (sym c.in_default.is ∙ c.fetch.ensures))
 
 pub returns-in_default-decode-clause-made : goal.returns-in_default-decode-clause-made
 returns-in_default-decode-clause-made c =
     let s = state_of c.args.self.now in
-    sym (step_fetched s (Some c.in-Some.word) c.if-self-ne0.false (sym c.in-Some.is ∙ c.get_four.ensures)
+    sym (step_fetched s (Some c.in-Some.word) c.if-self-ne0.false (sym c.in-Some.is ∙ c.fetch.ensures)
     ∙ unknown s c.in-Some.word (omega arith) (λ i e. cc (c.decode.ensures.only i e)))
 
 pub returns-clause-made : goal.returns-clause-made
@@ -23,4 +23,4 @@ returns-clause-made c =
     let s = state_of c.args.self.now in
     c.execute.ensures.made ∙ sym (row_of s c.in-Some-decode.instruction)
     ∙ ap (executed s) (sym c.in-Some-decode.ensures.found)
-    ∙ sym (step_fetched s (Some c.in-Some.word) c.if-self-ne0.false (sym c.in-Some.is ∙ c.get_four.ensures))
+    ∙ sym (step_fetched s (Some c.in-Some.word) c.if-self-ne0.false (sym c.in-Some.is ∙ c.fetch.ensures))

@@ -1,15 +1,19 @@
 -- The code of a command does what the command does.
 use Rattle.std.proofs.Common.{◌≡◌, sym, ap, subst, ◌∙◌, arith, ℕ, zero, suc, ◌+◌, List, [], ◌∷◌, ◌++◌, length, Option, Some, Ok, ⊎_elim}
 use Rattle.std.specs.FinMap.{get, insert}
+use Rattle.bed_meaning.specs.State.{spend, with_mem}
+use Rattle.bed_meaning.specs.Fuelled.{fuelled, given, choose}
+use Rattle.bed_meaning.specs.Fuelled as meaning
+use Rattle.rv_memory.specs.Ranges.{Bytes}
 use Rattle.bed_syntax.specs.Shape.{noted}
 use Rattle.bed_syntax.specs.declared.operation.Size.{Size}
 use Rattle.bed_syntax.specs.declared.weights.Weights.{Weights}
-use Rattle.bed_meaning.specs.Access.{Bytes, store}
+use Rattle.bed_meaning.specs.Access.{store}
 use Rattle.bed_meaning.specs.Locals as bed
 use Rattle.bed_meaning.specs.State as state
 use Rattle.bed_meaning.specs.Meaning as source
-use Rattle.flat_lang.specs.State.{Vars, spend, with_mem}
-use Rattle.flat_lang.specs.Meaning.{Rule, fuelled, given, choose, sets, run, run_step, run_all}
+use Rattle.flat_lang.specs.State.{Vars}
+use Rattle.flat_lang.specs.Meaning.{Rule, sets, run, run_step, run_all}
 use Rattle.flat_lang.specs.declared.flat.FStmt.{FStmt, fold-roll-FStmt}
 use Rattle.flat_lang.specs.declared.flat.FStmt.TheOpen as o
 use Rattle.flat_lang.specs.declared.flat.FStmt.TheVariants as f
@@ -51,13 +55,13 @@ module _ (w : Weights) (same : w.variable ≡ w.set) (tables : List (List ℕ)) 
       → Comes w tables names (code.code k) s.ticks s.mem v t
 
   -- the fuel of a command changes nothing else
-  pub fuelled_follows : (rule : source.Rule) (code : CmdCode) (locals : List ℕ → List ℕ) → Follows rule code locals → Follows (source.fuelled rule) code locals
+  pub fuelled_follows : (rule : source.Rule) (code : CmdCode) (locals : List ℕ → List ℕ) → Follows rule code locals → Follows (meaning.fuelled rule) code locals
   fuelled_follows rule code locals follows ms k s t v is named agrees has =
       let taken = took s.fuel s t rule is in
       follows ms k (left taken.0 s) t v taken.1 named agrees has
 
   pub set_follows : (x : ℕ) (va : Bytes → bed.Vars → Option ℕ) (pa : ℕ) (ca : ExprCode) (la : List ℕ → List ℕ) → Right w tables names va pa ca la
-      → Follows (λ s. source.given (va s.mem s.vars) (λ n. source.given (bed.assigned x n s.vars) (λ vars. done (state.with_vars vars (state.spend (pa + w.set) s)))))
+      → Follows (λ s. meaning.given (va s.mem s.vars) (λ n. meaning.given (bed.assigned x n s.vars) (λ vars. done (state.with_vars vars (state.spend (pa + w.set) s)))))
       (record { tables = ca.tables; code = λ k. ca.code (length names) k ++ f.Copy (place names x) (length names) ∷ [] }) (λ ms. noted x (la ms))
   set_follows x va pa ca la right ms k s t v is named agrees has =
       let valued = given_some (va s.mem s.vars) _ t is in
@@ -86,7 +90,7 @@ module _ (w : Weights) (same : w.variable ≡ w.set) (tables : List (List ℕ)) 
   pub store_follows : (size : Size) (va vb : Bytes → bed.Vars → Option ℕ) (pa pb : ℕ) (ca cb : ExprCode) (la lb : List ℕ → List ℕ)
       → Grows lb → Right w tables names va pa ca la → Right w tables names vb pb cb lb
       → Follows
-      (λ s. source.given (va s.mem s.vars) (λ p. source.given (vb s.mem s.vars) (λ n. source.given (store size s.mem p n) (λ mem. done (state.with_mem mem (state.spend (pa + pb + w.store) s))))))
+      (λ s. meaning.given (va s.mem s.vars) (λ p. meaning.given (vb s.mem s.vars) (λ n. meaning.given (store size s.mem p n) (λ mem. done (state.with_mem mem (state.spend (pa + pb + w.store) s))))))
       (record {
         tables = ca.tables ++ cb.tables;
         code = λ k. ca.code (length names) k ++ (cb.code (length names + 1) (k + length ca.tables) ++ f.Store size (length names) (length names + 1) ∷ []);
@@ -130,14 +134,14 @@ module _ (w : Weights) (same : w.variable ≡ w.set) (tables : List (List ℕ)) 
         agrees = agrees_above names s.vars a.vars b.vars to (omega arith) (λ q h. b.below q (omega arith)) agrees_a;
       })
 
-  pub none_follows : Follows (source.in_turn []) (in_turn []) (λ ms. ms)
+  pub none_follows : Follows (meaning.in_turn []) (in_turn []) (λ ms. ms)
   none_follows ms k s t v is named agrees has =
       let end : s ≡ t = same_done s t is in
       let price : s.ticks ≡ s.ticks + 0 = omega arith in
       subst (λ r. Comes w tables names [] s.ticks s.mem v r) end (record { spent = 0; vars = v; ticks = price; goes = goes_none w tables s.mem v; agrees = agrees })
 
   pub then_follows : (first rest : source.Rule) (a b : CmdCode) (la lb : List ℕ → List ℕ) → Grows lb → Follows first a la → Follows rest b lb
-      → Follows (λ s. source.and_then (first s) rest) (then_code a b) (λ ms. lb (la ms))
+      → Follows (λ s. meaning.and_then (first s) rest) (then_code a b) (λ ms. lb (la ms))
   then_follows first rest a b la lb grows follows_a follows_b ms k s t v is named agrees has =
       let parts = then_done (first s) rest t is in
       let s1 : state.State = parts.0 in
@@ -176,7 +180,7 @@ module _ (w : Weights) (same : w.variable ≡ w.set) (tables : List (List ℕ)) 
     agrees : Agrees names t.vars vars
 
   side_follows : (n : ℕ) (p q : source.Rule) (a b : CmdCode) (la lb : List ℕ → List ℕ) → Grows lb → Follows p a la → Follows q b lb
-      → (ms : List ℕ) (k : ℕ) (s t : state.State) (v : Vars) → source.choose n p q s ≡ done t → Extends (lb (la ms)) names → Agrees names s.vars v → Has tables k (a.tables ++ b.tables)
+      → (ms : List ℕ) (k : ℕ) (s t : state.State) (v : Vars) → meaning.choose n p q s ≡ done t → Extends (lb (la ms)) names → Agrees names s.vars v → Has tables k (a.tables ++ b.tables)
       → Side n (a.code k) (b.code (k + length a.tables)) s.ticks s.mem v t
   side_follows zero p q a b la lb grows follows_a follows_b ms k s t v is named agrees has =
       let y = follows_b (la ms) (k + length a.tables) s t v is named agrees (has_second tables k a.tables b.tables has) in
@@ -187,7 +191,7 @@ module _ (w : Weights) (same : w.variable ≡ w.set) (tables : List (List ℕ)) 
 
   pub cond_follows : (va : Bytes → bed.Vars → Option ℕ) (pa : ℕ) (ca : ExprCode) (la : List ℕ → List ℕ) (p q : source.Rule) (cp cq : CmdCode) (lp lq : List ℕ → List ℕ)
       → Grows lp → Grows lq → Right w tables names va pa ca la → Follows p cp lp → Follows q cq lq
-      → Follows (λ s. source.given (va s.mem s.vars) (λ n. source.choose n p q (state.spend (pa + w.test) s)))
+      → Follows (λ s. meaning.given (va s.mem s.vars) (λ n. meaning.choose n p q (state.spend (pa + w.test) s)))
       (record {
         tables = ca.tables ++ (cp.tables ++ cq.tables);
         code = λ k. ca.code (length names) k ++ f.If (length names) (cp.code (k + length ca.tables)) (cq.code (k + length ca.tables + length cp.tables)) ∷ [];

@@ -1,6 +1,8 @@
 -- The code of an expression gives its value.
 use Rattle.std.proofs.Common.{◌≡◌, refl, sym, ap, subst, ◌∙◌, arith, ℕ, ◌+◌, ◌<◌, ◌≤◌, List, [], ◌∷◌, ◌++◌, length, Option, Some, None, slice_get}
 use Rattle.std.specs.FinMap.{get, insert}
+use Rattle.bed_meaning.specs.Fuelled.{fuelled, given}
+use Rattle.rv_memory.specs.Ranges.{Bytes}
 use Rattle.bed_syntax.specs.Operation.{apply}
 use Rattle.bed_syntax.specs.Shape.{expr_locals, expr_locals_step, noted}
 use Rattle.bed_syntax.specs.Weight.{expr_weight, expr_weight_step}
@@ -9,11 +11,11 @@ use Rattle.bed_syntax.specs.declared.operation.Size.{Size}
 use Rattle.bed_syntax.specs.declared.weights.Weights.{Weights}
 use Rattle.bed_syntax.specs.declared.expression.BExpr.{BExpr, BExpr-F, map-BExpr, roll-BExpr, fold-roll-BExpr, ind-BExpr}
 use Rattle.bed_syntax.specs.declared.expression.BExpr.TheOpen as e
-use Rattle.bed_meaning.specs.Access.{Bytes, loaded, entry}
+use Rattle.bed_meaning.specs.Access.{loaded, entry}
 use Rattle.bed_meaning.specs.Locals as bed
 use Rattle.bed_meaning.specs.Value.{value, value_step, both, then_some}
 use Rattle.flat_lang.specs.State.{Vars}
-use Rattle.flat_lang.specs.Meaning.{Rule, fuelled, given, sets, run, run_step}
+use Rattle.flat_lang.specs.Meaning.{Rule, sets, run, run_step}
 use Rattle.flat_lang.specs.declared.flat.FStmt.{FStmt, fold-roll-FStmt}
 use Rattle.flat_lang.specs.declared.flat.FStmt.TheOpen as o
 use Rattle.flat_lang.specs.declared.flat.FStmt.TheVariants as f

@@ -1,11 +1,12 @@
 -- Three-address code that goes from one state to another, whatever fuel is left over.
 use Rattle.std.proofs.Common.{◌≡◌, refl, ap, ◌∙◌, arith, ℕ, suc, ◌+◌, List, [], ◌∷◌, ◌++◌, Result, Ok, Err}
+use Rattle.bed_meaning.specs.Fuelled.{and_then, fuelled, take_one, in_turn}
+use Rattle.rv_memory.specs.Ranges.{Bytes}
 use Rattle.bed_syntax.specs.declared.weights.Weights.{Weights}
 use Rattle.bed_meaning.specs.declared.halt.Halt.{Halt}
-use Rattle.bed_meaning.specs.Access.{Bytes}
 use Rattle.flat_lang.specs.declared.flat.FStmt.{FStmt}
 use Rattle.flat_lang.specs.State.{State, Vars}
-use Rattle.flat_lang.specs.Meaning.{Rule, and_then, fuelled, take_one, in_turn, run, run_all}
+use Rattle.flat_lang.specs.Meaning.{Rule, run, run_all}
 
 abbrev pub at : ℕ → ℕ → Bytes → Vars → State
 at fuel ticks mem vars = record { fuel = fuel; ticks = ticks; mem = mem; vars = vars }

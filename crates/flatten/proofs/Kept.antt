@@ -2,6 +2,8 @@
 use Rattle.std.proofs.Common.{◌≡◌, sym, ap, subst, ◌∙◌, arith, ℕ, ◌+◌, ◌-◌, ◌<◌, min, List, [], ◌∷◌, length, map, Ok, option_map, slice_get}
 use Rattle.std.proofs.lemmas.Option.{slice_get-map}
 use Rattle.std.specs.FinMap.{get}
+use Rattle.bed_meaning.specs.Fuelled.{finish}
+use Rattle.bed_meaning.specs.Fuelled as meaning
 use Rattle.bed_syntax.specs.Shape.{expr_locals, cmd_locals, cmd_locals_step, all_noted, numbers, locals_of}
 use Rattle.bed_syntax.specs.Shape as shape
 use Rattle.bed_syntax.specs.Weight.{expr_weight}
@@ -13,7 +15,7 @@ use Rattle.bed_meaning.specs.Value.{value}
 use Rattle.bed_meaning.specs.State as state
 use Rattle.bed_meaning.specs.Meaning as source
 use Rattle.flat_lang.specs.State.{Vars}
-use Rattle.flat_lang.specs.Meaning.{run_all, finish}
+use Rattle.flat_lang.specs.Meaning.{run_all}
 use Rattle.flat_lang.specs.declared.flat.Flat.{Flat}
 use Rattle.flatten.specs.Code.{expr_code, CmdCode, cmd_code, cmd_step, in_turn, place, flat_of}
 use Rattle.flatten.specs.Keeps.{Starts, Returns, Keeps}
@@ -41,12 +43,12 @@ module _ (w : Weights) (same : w.variable ≡ w.set) (tables : List (List ℕ)) 
       (cmd_locals_step (map-Cmd Cmd (List ℕ → List ℕ) cmd_locals y))
 
   all_right : (cs : List Proved)
-      → Follows w same tables names (source.in_turn (map (source.run w) (map (λ p. p.0) cs))) (in_turn (map (cmd_code names) (map (λ p. p.0) cs)))
+      → Follows w same tables names (meaning.in_turn (map (source.run w) (map (λ p. p.0) cs))) (in_turn (map (cmd_code names) (map (λ p. p.0) cs)))
       (shape.in_turn (map cmd_locals (map (λ p. p.0) cs)))
   all_right [] = none_follows w same tables names
   all_right (a ∷ cs) =
       let rest : List Cmd = map (λ p. p.0) cs in
-      then_follows w same tables names (source.run w a.0) (source.in_turn (map (source.run w) rest)) (cmd_code names a.0) (in_turn (map (cmd_code names) rest)) (cmd_locals a.0)
+      then_follows w same tables names (source.run w a.0) (meaning.in_turn (map (source.run w) rest)) (cmd_code names a.0) (in_turn (map (cmd_code names) rest)) (cmd_locals a.0)
       (shape.in_turn (map cmd_locals rest)) (all_locals_grow rest) a.1 (all_right cs)
 
   step_right : (y : Cmd-F Proved) → StepRight (bare y)

@@ -1,7 +1,10 @@
 mod Commands
 mod Counted
 mod CountedCommands
+mod Covering
+mod Distinct
 mod Expressions
+mod Fitting
 mod Flattened
 mod Goes
 mod Growth
@@ -9,5 +12,7 @@ mod Kept
 mod Loops
 mod Outcomes
 mod Places
+mod Pressed
+mod Pressure
 mod Readings
 mod WholeCode

@@ -1,15 +1,18 @@
 -- The code of a loop does what the loop does.
 use Rattle.std.proofs.Common.{◌≡◌, sym, ap, subst, ◌∙◌, arith, ℕ, zero, suc, ◌+◌, ◌<◌, List, [], ◌∷◌, ◌++◌, length, Option, Some, Ok, Err, Result}
 use Rattle.std.specs.FinMap.{get}
+use Rattle.bed_meaning.specs.State.{spend}
+use Rattle.bed_meaning.specs.Fuelled.{and_then, fuelled, given, choose, take_one, in_turn}
+use Rattle.bed_meaning.specs.Fuelled as meaning
+use Rattle.rv_memory.specs.Ranges.{Bytes}
 use Rattle.bed_syntax.specs.declared.weights.Weights.{Weights}
 use Rattle.bed_meaning.specs.declared.halt.Halt.{Halt}
 use Rattle.bed_meaning.specs.declared.halt.Halt.TheVariants as halt
-use Rattle.bed_meaning.specs.Access.{Bytes}
 use Rattle.bed_meaning.specs.Locals as bed
 use Rattle.bed_meaning.specs.State as state
 use Rattle.bed_meaning.specs.Meaning as source
-use Rattle.flat_lang.specs.State.{Vars, spend}
-use Rattle.flat_lang.specs.Meaning.{Rule, and_then, fuelled, given, choose, take_one, turns, run, run_step, run_all, in_turn}
+use Rattle.flat_lang.specs.State.{Vars}
+use Rattle.flat_lang.specs.Meaning.{Rule, turns, run, run_step, run_all}
 use Rattle.flat_lang.specs.declared.flat.FStmt.{FStmt, fold-roll-FStmt}
 use Rattle.flat_lang.specs.declared.flat.FStmt.TheOpen as o
 use Rattle.flat_lang.specs.declared.flat.FStmt.TheVariants as f
@@ -110,7 +113,7 @@ module _ (w : Weights) (same : w.variable ≡ w.set) (tables : List (List ℕ)) 
         right ms (length names) k s.mem s.vars v x is (extends_through (la ms) (lb (la ms)) names (grows (la ms)) named) (omega arith) agrees (has_first tables k ca.tables cb.tables has)
 
     turned : (n x : ℕ) (s t : state.State) (v : Vars) → va s.mem s.vars ≡ Some x
-        → source.choose x (source.fuelled (λ r. source.and_then (body r) (loop n))) (λ r. done r) (state.spend (pa + w.turn) s) ≡ done t → Agrees names s.vars v
+        → meaning.choose x (meaning.fuelled (λ r. meaning.and_then (body r) (loop n))) (λ r. done r) (state.spend (pa + w.turn) s) ≡ done t → Agrees names s.vars v
         → ((s1 : state.State) (v1 : Vars) → loop n s1 ≡ done t → Agrees names s1.vars v1 → Loops test_code body_code s1.ticks s1.mem v1 t)
         → Loops test_code body_code s.ticks s.mem v t
     turned n zero s t v is ends agrees again =
@@ -149,7 +152,7 @@ module _ (w : Weights) (same : w.variable ≡ w.set) (tables : List (List ℕ)) 
 
   pub while_follows : (va : Bytes → bed.Vars → Option ℕ) (pa : ℕ) (ca : ExprCode) (la : List ℕ → List ℕ) (body : source.Rule) (cb : CmdCode) (lb : List ℕ → List ℕ)
       → Grows lb → Right w tables names va pa ca la → Follows w same tables names body cb lb
-      → Follows w same tables names (λ s. source.fuelled (source.turns s.fuel (λ r. va r.mem r.vars) (pa + w.turn) body) s)
+      → Follows w same tables names (λ s. meaning.fuelled (source.turns s.fuel (λ r. va r.mem r.vars) (pa + w.turn) body) s)
       (record { tables = ca.tables ++ cb.tables; code = λ k. f.While (ca.code (length names) k) (length names) (cb.code (k + length ca.tables)) ∷ [] }) (λ ms. lb (la ms))
   while_follows va pa ca la body cb lb grows right follows ms k s t v is named agrees has =
       let taken = took s.fuel s t _ is in

@@ -1,11 +1,12 @@
 -- A run of a command that came to an end, taken apart.
 use Rattle.std.proofs.Common.{◌≡◌, refl, ap, ℕ, zero, suc, Option, Some, None, Result, Ok, Err}
+use Rattle.bed_meaning.specs.Fuelled.{and_then, given, take_one, finish}
+use Rattle.rv_memory.specs.Ranges.{Bytes}
 use Rattle.bed_meaning.specs.declared.halt.Halt.{Halt}
 use Rattle.bed_meaning.specs.declared.halt.Halt.TheVariants.{Stuck, OutOfFuel}
-use Rattle.bed_meaning.specs.Access.{Bytes}
 use Rattle.bed_meaning.specs.Locals.{Vars}
 use Rattle.bed_meaning.specs.State.{State}
-use Rattle.bed_meaning.specs.Meaning.{Rule, End, and_then, given, take_one, finish}
+use Rattle.bed_meaning.specs.Meaning.{Rule, End}
 
 abbrev pub done : State → Result State Halt
 done s = Ok s

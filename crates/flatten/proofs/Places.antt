@@ -45,7 +45,7 @@ front_known : (b k : Bool) (p n : ℕ) → (b || k) ≡ true → (k ≡ true →
 front_known true k p n h f = omega arith
 front_known false k p n h f = let e : p < n = f h in omega arith
 
-known_place : (ns : List ℕ) (x : ℕ) → is_known ns x ≡ true → Known ns x
+pub known_place : (ns : List ℕ) (x : ℕ) → is_known ns x ≡ true → Known ns x
 known_place [] x h = absurd (let bad : false ≡ true = h in cc)
 known_place (y ∷ ns) x h = front_known (nat_eq y x) (is_known ns x) (place ns x) (length ns) h (λ k. known_place ns x k)
 
@@ -53,7 +53,7 @@ front_unknown : (b k : Bool) (p n : ℕ) → (b || k) ≡ false → (k ≡ false
 front_unknown true k p n h f = absurd (let bad : true ≡ false = h in cc)
 front_unknown false k p n h f = let e : n ≤ p = f h in omega arith
 
-unknown_place : (ns : List ℕ) (x : ℕ) → is_known ns x ≡ false → length ns ≤ place ns x
+pub unknown_place : (ns : List ℕ) (x : ℕ) → is_known ns x ≡ false → length ns ≤ place ns x
 unknown_place [] x h = omega arith
 unknown_place (y ∷ ns) x h = front_unknown (nat_eq y x) (is_known ns x) (place ns x) (length ns) h (λ k. unknown_place ns x k)
 

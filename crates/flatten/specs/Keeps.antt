@@ -1,9 +1,9 @@
 -- What three-address code keeps of the command that it was made from.
 use Rattle.std.specs.Prelude.{◌≡◌, ℕ, ◌<◌, ◌≤◌, List, Some, Ok, slice_get}
 use Rattle.std.specs.FinMap.{get}
+use Rattle.rv_memory.specs.Ranges.{Bytes}
 use Rattle.bed_syntax.specs.declared.weights.Weights.{Weights}
 use Rattle.bed_syntax.specs.declared.command.Cmd.{Cmd}
-use Rattle.bed_meaning.specs.Access.{Bytes}
 use Rattle.bed_meaning.specs.Locals as bed
 use Rattle.bed_meaning.specs.Meaning as source
 use Rattle.flat_lang.specs.declared.flat.Flat.{Flat}

@@ -1,10 +1,12 @@
 //! The pass itself.
 ghost use Rattle.std.specs.Prelude.{◌≡◌, ◌+◌, ◌++◌, ◌^◌, ◌<◌, ◌≤◌, OnOk, IfOk, length, map, sum};
 ghost use Rattle.bed_syntax.specs.Named.{cmd_names};
+ghost use Rattle.bed_syntax.specs.Pressure.{pressure};
 ghost use Rattle.bed_syntax.specs.Shape.{expr_size, cmd_size, cmd_depth, locals_of};
 ghost use Rattle.bed_syntax.specs.Weight.{cmd_weight};
 ghost use Rattle.bed_syntax.specs.declared.weights.Weights.{Weights};
 ghost use Rattle.flat_lang.specs.Count.{code_names, code_weight};
+ghost use Rattle.flat_lang.specs.Pressure.{flat_pressure};
 ghost use Rattle.flat_lang.specs.Whole.{IsWhole};
 ghost use Rattle.flatten.specs.Code.{place, expr_code, cmd_code, in_turn, flat_of};
 ghost use Rattle.flatten.specs.Keeps.{Keeps};
@@ -31,6 +33,7 @@ pub fn flatten(alloc: Global, c: &Cmd, args: u32, rets: &[u32]) -> Result<Flat, 
     ensures tables { IfOk result (λ flat. flat.tables ≡ cmd_tables c.now) }
     ensures weight { IfOk result (λ flat. (w : Weights) → w.variable ≡ w.set → code_weight w flat.body ≡ cmd_weight w c.now) }
     ensures names { IfOk result (λ flat. code_names flat.body ≡ cmd_names c.now) }
+    ensures pressure { IfOk result (λ flat. flat_pressure flat ≤ pressure c.now args rets.now) }
 {
     code_of(alloc, c, args, rets)
 }

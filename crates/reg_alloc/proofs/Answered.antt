@@ -1,5 +1,5 @@
 -- What the public calls answer, by what they compute.
-use Rattle.std.proofs.Common.{◌≡◌, refl, ap, ◌∙◌, subst, sym, arith, ℕ, zero, suc, ◌<◌, Bool, true, false, List, [], ◌∷◌, ◌++◌, map, reverse, Option, Some, None, Result, Ok, Err, IfOk, ◌↔◌, if◌then◌else◌}
+use Rattle.std.proofs.Common.{◌≡◌, refl, ap, ◌∙◌, subst, sym, arith, ℕ, zero, suc, ◌<◌, ◌≤◌, Bool, true, false, List, [], ◌∷◌, ◌++◌, map, reverse, Option, Some, None, Result, Ok, Err, IfOk, ◌↔◌, if◌then◌else◌}
 use Rattle.std.specs.Prelude.{slice_index_or}
 use Rattle.std.proofs.lemmas.List.{reverse-append, reverse-reverse}
 use Rattle.rup_base.specs.declared.no_memory.NoMemory.{NoMemory}
@@ -14,7 +14,7 @@ use Rattle.reg_alloc.specs.Marks.{Marks, below, listed}
 use Rattle.reg_alloc.specs.Visit.{seen, code_visit}
 use Rattle.reg_alloc.specs.PlanOk.{PlanOk}
 use Rattle.reg_alloc.specs.Liveness.{read_first, IsLiveness}
-use Rattle.reg_alloc.specs.Check.{plan_fits, lists_of, live_lists, at_end}
+use Rattle.reg_alloc.specs.Check.{plan_fits, lists_of, live_lists, at_end, at_start}
 use Rattle.reg_alloc.proofs.Exact.{from, replay, start_is, notes_are}
 use Rattle.reg_alloc.proofs.Decided.{from_at, fits_say, fits_since}
 
@@ -69,6 +69,14 @@ module _ (flat : Flat) where
 pub is_liveness : (flat : Flat) (r : Result (List (List ℕ)) NoMemory) → IfOk r (λ lists. lists ≡ live_lists flat) → IfOk r (λ lists. IsLiveness flat lists)
 is_liveness flat (Ok lists) h = subst (λ l. IsLiveness flat l) (sym h) (exact flat)
 is_liveness flat (Err e) h = h
+
+pub are_live : (flat : Flat) → flat.args ≤ flat.vars → (r : Result (List ℕ) NoMemory) → IfOk r (λ live. live ≡ listed flat.args (at_start flat)) → IfOk r (λ live. (n : ℕ) → live ≡ read_first flat.args (flat_ways (suc n) flat))
+are_live flat few (Ok live) h = λ n.
+    h
+    ∙ ap (listed flat.args) (start_is flat)
+    ∙ below_same flat.args (λ v. slice_index_or (from flat.vars (flat_need flat)) v false) (flat_need flat) (λ v less. from_at flat.vars (flat_need flat) v (omega arith))
+    ∙ below_same flat.args (flat_need flat) (λ v. some_takes v (flat_ways (suc n) flat) false) (λ v less. sym (start_alike n flat v))
+are_live flat few (Err e) h = h
 
 pub fits_plan : (flat : Flat) (plan : Plan) (r : Result Bool NoMemory) → IfOk r (λ fits. fits ≡ plan_fits flat plan) → IfOk r (λ fits. (fits ≡ true) ↔ PlanOk flat plan)
 fits_plan flat plan (Ok fits) h = ((λ is. fits_say flat plan (sym h ∙ is)), (λ ok. h ∙ fits_since flat plan ok))

@@ -18,7 +18,7 @@ use Rattle.reg_alloc.specs.Visit.{seen, code_visit}
 use Rattle.reg_alloc.specs.PlanOk.{is_place, Share, Clear, PlanOk}
 use Rattle.reg_alloc.specs.Kept.{number}
 use Rattle.reg_alloc.specs.Check.{all_below, arguments_fit, fits_to_start, code_fits, plan_fits, at_end}
-use Rattle.reg_alloc.proofs.Numbers.{and_left, and_right, and_both, number_positive, same_number, each_valid, within}
+use Rattle.reg_alloc.proofs.laws.Numbers.{and_left, and_right, and_both, number_positive, same_number, each_valid, within}
 use Rattle.reg_alloc.proofs.Exact.{from, replay, front_is, start_is, notes_are}
 
 head_says : (live : Bool) (n q k x : ℕ) → (not (live && nat_eq n q) || nat_eq k x) ≡ true → live ≡ true → n ≡ q → k ≡ x

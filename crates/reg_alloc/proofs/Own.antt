@@ -1,6 +1,9 @@
 -- Places of one's own serve every code.
-use Rattle.std.proofs.Common.{◌≡◌, refl, ap, ◌∙◌, subst, sym, arith, ℕ, zero, suc, ◌+◌, ◌<◌, ◌≤◌, Bool, true, false, nat_lt, List, [], ◌∷◌, ◌++◌, map, length, length-append, Option, Some, None, Result, Ok, Err, IfOk, slice_get, ◌⊎◌, inl, inr, if◌then◌else◌}
+use Rattle.std.proofs.Common.{◌≡◌, refl, ap, ◌∙◌, subst, sym, arith, ℕ, zero, suc, ◌+◌, ◌-◌, min, ◌<◌, ◌≤◌, Bool, true, false, nat_lt, List, [], ◌∷◌, ◌++◌, map, length, length-append, Option, Some, None, Result, Ok, Err, IfOk, slice_get, ◌⊎◌, inl, inr, if◌then◌else◌}
 use Rattle.std.specs.List.{AllByRecursion}
+use Rattle.std.specs.Prelude.{option_map}
+use Rattle.std.proofs.lemmas.Bool.{ltb-true, ltb-false}
+use Rattle.std.proofs.lemmas.Option.{slice_get-map}
 use Rattle.rup_base.specs.Gather.{all_true}
 use Rattle.rup_base.specs.declared.no_memory.NoMemory.{NoMemory}
 use Rattle.flat_lang.specs.declared.flat.Flat.{Flat}
@@ -10,61 +13,40 @@ use Rattle.reg_alloc.specs.declared.plan.At.TheVariants.{Reg, Slot}
 use Rattle.reg_alloc.specs.declared.plan.Plan.{Plan}
 use Rattle.reg_alloc.specs.PlanOk.{is_place, Share, Clear, PlanOk}
 use Rattle.reg_alloc.specs.Kept.{number}
-use Rattle.reg_alloc.specs.Registers.{own_place, own_places, HasNoSlot}
-use Rattle.reg_alloc.proofs.Numbers.{and_left, and_right, and_both}
+use Rattle.reg_alloc.specs.Registers.{own_place, own_places, place_in, HasNoSlot}
+use Rattle.reg_alloc.proofs.laws.Numbers.{and_left, and_right, and_both}
 
 pub own_next : (n : ℕ) → own_places (n + 1) ≡ own_places n ++ own_place n ∷ []
 own_next n = let e : n + 1 ≡ suc n = omega arith in ap own_places e
 
-abbrev Spot : ℕ → Type 0
-Spot v = ((v < 2) × (own_place v ≡ Reg (8 + v))) ⊎ (((2 ≤ v) × ((v < 16) × (own_place v ≡ Reg (16 + v)))) ⊎ ((16 ≤ v) × (own_place v ≡ Slot v)))
-
-spot : (v : ℕ) → Spot v
-spot v = by_two (nat_lt v 2) refl
+-- what holds of each kind of place holds of a variable's own
+by_place : (P : At → Type 0) (v : ℕ) → (v < 4 → P (Reg (28 + v))) → (4 ≤ v → v < 14 → P (Reg (14 + v))) → (14 ≤ v → v < 16 → P (Reg (v - 6))) → (16 ≤ v → P (Slot (v - 16))) → P (own_place v)
+by_place P v a b c d = first (nat_lt v 4) refl
   where
-    by_sixteen : nat_lt v 2 ≡ false → (b : Bool) → nat_lt v 16 ≡ b → Spot v
-    by_sixteen low true is =
-        inr (inl (
-          grind (arith, low),
-          (
-            grind (arith, is),
-            ap (λ c. if c then Reg (8 + v) else (if nat_lt v 16 then Reg (16 + v) else Slot v)) low ∙ ap (λ c. if c then Reg (16 + v) else Slot v) is,
-          ),
-        ))
-    by_sixteen low false is =
-        inr (inr (
-          grind (arith, is),
-          ap (λ c. if c then Reg (8 + v) else (if nat_lt v 16 then Reg (16 + v) else Slot v)) low ∙ ap (λ c. if c then Reg (16 + v) else Slot v) is,
-        ))
+    third : 14 ≤ v → (t : Bool) → nat_lt v 16 ≡ t → P (if t then Reg (v - 6) else Slot (v - 16))
+    third low true is = c low (ltb-true v 16 is)
+    third low false is = d (ltb-false v 16 is)
 
-    by_two : (b : Bool) → nat_lt v 2 ≡ b → Spot v
-    by_two true is = inl (grind (arith, is), ap (λ c. if c then Reg (8 + v) else (if nat_lt v 16 then Reg (16 + v) else Slot v)) is)
-    by_two false is = by_sixteen is (nat_lt v 16) refl
+    second : 4 ≤ v → (t : Bool) → nat_lt v 14 ≡ t → P (if t then Reg (14 + v) else (if nat_lt v 16 then Reg (v - 6) else Slot (v - 16)))
+    second low true is = b low (ltb-true v 14 is)
+    second low false is = third (ltb-false v 14 is) (nat_lt v 16) refl
 
-own_number : (u v : ℕ) → Spot u → Spot v → own_place u ≡ own_place v → u ≡ v
-own_number u v (inl a) (inl b) same = let e : 8 + u ≡ 8 + v = sym (ap number a.1) ∙ ap number same ∙ ap number b.1 in omega arith
-own_number u v (inl a) (inr (inl b)) same = let e : 8 + u ≡ 16 + v = sym (ap number a.1) ∙ ap number same ∙ ap number b.1.1 in let l = a.0 in let m = b.0 in omega arith
-own_number u v (inl a) (inr (inr b)) same = let e : 8 + u ≡ 32 + v = sym (ap number a.1) ∙ ap number same ∙ ap number b.1 in let l = a.0 in omega arith
-own_number u v (inr (inl a)) (inl b) same = let e : 16 + u ≡ 8 + v = sym (ap number a.1.1) ∙ ap number same ∙ ap number b.1 in let l = b.0 in let m = a.0 in omega arith
-own_number u v (inr (inl a)) (inr (inl b)) same = let e : 16 + u ≡ 16 + v = sym (ap number a.1.1) ∙ ap number same ∙ ap number b.1.1 in omega arith
-own_number u v (inr (inl a)) (inr (inr b)) same = let e : 16 + u ≡ 32 + v = sym (ap number a.1.1) ∙ ap number same ∙ ap number b.1 in let l = a.1.0 in omega arith
-own_number u v (inr (inr a)) (inl b) same = let e : 32 + u ≡ 8 + v = sym (ap number a.1) ∙ ap number same ∙ ap number b.1 in let l = b.0 in omega arith
-own_number u v (inr (inr a)) (inr (inl b)) same = let e : 32 + u ≡ 16 + v = sym (ap number a.1) ∙ ap number same ∙ ap number b.1.1 in let l = b.1.0 in omega arith
-own_number u v (inr (inr a)) (inr (inr b)) same = let e : 32 + u ≡ 32 + v = sym (ap number a.1) ∙ ap number same ∙ ap number b.1 in omega arith
+    first : (t : Bool) → nat_lt v 4 ≡ t → P (if t then Reg (28 + v) else (if nat_lt v 14 then Reg (14 + v) else (if nat_lt v 16 then Reg (v - 6) else Slot (v - 16))))
+    first true is = a (ltb-true v 4 is)
+    first false is = second (ltb-false v 4 is) (nat_lt v 14) refl
 
-low_valid : (k v : ℕ) → v < 2 → is_place k (Reg (8 + v)) ≡ true
-low_valid k v h = grind (arith, h)
+-- the variable of a place's number
+abbrev variable_of : ℕ → ℕ
+variable_of n = if nat_lt n 18 then n + 6 else (if nat_lt n 28 then n - 14 else (if nat_lt n 32 then n - 28 else n - 16))
 
-high_valid : (k v : ℕ) → 2 ≤ v → v < 16 → is_place k (Reg (16 + v)) ≡ true
-high_valid k v h g = grind (arith, h, g)
+of_own : (v : ℕ) → variable_of (number (own_place v)) ≡ v
+of_own v = by_place (λ a. variable_of (number a) ≡ v) v (λ h. grind (arith, h)) (λ h g. grind (arith, h, g)) (λ h g. grind (arith, h, g)) (λ h. grind (arith, h))
 
-slot_valid : (k v : ℕ) → v < k → is_place k (Slot v) ≡ true
-slot_valid k v h = grind (arith, h)
+own_number : (u v : ℕ) → own_place u ≡ own_place v → u ≡ v
+own_number u v same = sym (of_own u) ∙ ap (λ a. variable_of (number a)) same ∙ of_own v
 
-own_valid : (k v : ℕ) → v < k → Spot v → is_place k (own_place v) ≡ true
-own_valid k v h (inl a) = ap (is_place k) a.1 ∙ low_valid k v a.0
-own_valid k v h (inr (inl a)) = ap (is_place k) a.1.1 ∙ high_valid k v a.0 a.1.0
-own_valid k v h (inr (inr a)) = ap (is_place k) a.1 ∙ slot_valid k v h
+own_valid : (k v : ℕ) → v < k → is_place k (own_place v) ≡ true
+own_valid k v less = by_place (λ a. is_place k a ≡ true) v (λ h. grind (arith, h)) (λ h g. grind (arith, h, g)) (λ h g. grind (arith, h, g)) (λ h. grind (arith, less))
 
 all_last : (k : ℕ) (xs : List At) (y : At) → all_true (map (is_place k) xs) ≡ true → is_place k y ≡ true → all_true (map (is_place k) (xs ++ y ∷ [])) ≡ true
 all_last k [] y h g = and_both (is_place k y) true g refl
@@ -74,7 +56,7 @@ all_last k (x ∷ xs) y h g =
 
 all_own_valid : (k n : ℕ) → n ≤ k → all_true (map (is_place k) (own_places n)) ≡ true
 all_own_valid k zero h = refl
-all_own_valid k (suc n) h = all_last k (own_places n) (own_place n) (all_own_valid k n (omega arith)) (own_valid k n (omega arith) (spot n))
+all_own_valid k (suc n) h = all_last k (own_places n) (own_place n) (all_own_valid k n (omega arith)) (own_valid k n (omega arith))
 
 length-own : (n : ℕ) → length (own_places n) ≡ n
 length-own zero = refl
@@ -99,7 +81,7 @@ own_at (suc n) i a h = by_case (before_or_last (own_places n) (own_place n) i a 
     by_case (inr e) before = let l = length-own n in let same : i ≡ n = e.0 ∙ l in (omega arith, e.1 ∙ ap own_place (sym same))
 
 apart : (n u v : ℕ) → Share (own_places n) u v → u ≡ v
-apart n u v share = own_number u v (spot u) (spot v) (sym ((own_at n u share.0 share.1.0).1) ∙ (own_at n v share.0 share.1.1).1)
+apart n u v share = own_number u v (sym ((own_at n u share.0 share.1.0).1) ∙ (own_at n v share.0 share.1.1).1)
 
 all_clear : (n : ℕ) (ss : List Step) → AllByRecursion (Clear (own_places n)) ss
 all_clear n [] = tt
@@ -113,15 +95,30 @@ own_serves flat plan is = record {
   arguments = λ u v less also live lives other share. other (apart flat.vars u v (subst (λ (ps : List At). Share ps u v) is share));
 }
 
+-- the places of less than 17 variables are registers
+is_register_of : (v n : ℕ) → v < 16 → own_place v ≡ Slot n → ⊥
+is_register_of v n few = by_place (λ a. a ≡ Slot n → ⊥) v (λ h is. absurd (cc)) (λ h g is. absurd (cc)) (λ h g is. absurd (cc)) (λ h is. omega arith)
+
 own_registers : (flat : Flat) (plan : Plan) → plan.places ≡ own_places flat.vars → flat.vars ≤ 16 → HasNoSlot plan
 own_registers flat plan is few i n at =
     let there = own_at flat.vars i (Slot n) (sym (ap (λ (ps : List At). slice_get ps i) is) ∙ at) in
-    no_slot i (there.0) there.1 (spot i)
-  where
-    no_slot : (i : ℕ) → i < flat.vars → Slot n ≡ own_place i → Spot i → ⊥
-    no_slot i less is (inl a) = let bad : Slot n ≡ Reg (8 + i) = is ∙ a.1 in absurd (cc)
-    no_slot i less is (inr (inl a)) = let bad : Slot n ≡ Reg (16 + i) = is ∙ a.1.1 in absurd (cc)
-    no_slot i less is (inr (inr a)) = let l = a.0 in omega arith
+    is_register_of i n (let less = there.0 in omega arith) (sym there.1)
+
+place_in_register : (vars n : ℕ) (colour : Option ℕ) → vars ≤ 16 → place_in vars colour ≡ Slot n → ⊥
+place_in_register vars n None few is = is_register_of 0 n (omega arith) is
+place_in_register vars n (Some colour) few is = is_register_of (min colour (vars - 1)) n (omega arith) is
+
+mapped_place : (vars n : ℕ) (o : Option (Option ℕ)) → vars ≤ 16 → option_map (place_in vars) o ≡ Some (Slot n) → ⊥
+mapped_place vars n None few h = let bad : ◌≡◌ {A = Option At} None (Some (Slot n)) = h in absurd (cc)
+mapped_place vars n (Some colour) few h = place_in_register vars n colour few (let e : ◌≡◌ {A = Option At} (Some (place_in vars colour)) (Some (Slot n)) = h in cc)
+
+shared_registers : (vars : ℕ) (colours : List (Option ℕ)) (plan : Plan) → plan.places ≡ map (place_in vars) colours → vars ≤ 16 → HasNoSlot plan
+shared_registers vars colours plan is few i n at =
+    mapped_place vars n (slice_get colours i) few (sym (slice_get-map (place_in vars) colours i) ∙ sym (ap (λ (ps : List At). slice_get ps i) is) ∙ at)
+
+pub shared : (vars : ℕ) (colours : List (Option ℕ)) (r : Result Plan NoMemory) → IfOk r (λ plan. plan.places ≡ map (place_in vars) colours) → IfOk r (λ plan. vars ≤ 16 → HasNoSlot plan)
+shared vars colours (Ok plan) h = λ few. shared_registers vars colours plan h few
+shared vars colours (Err e) h = h
 
 pub serves : (flat : Flat) (r : Result Plan NoMemory) → IfOk r (λ plan. plan.places ≡ own_places flat.vars) → IfOk r (λ plan. PlanOk flat plan)
 serves flat (Ok plan) h = own_serves flat plan h

@@ -4,7 +4,7 @@ use Rattle.rup_base.specs.Gather.{all_true}
 use Rattle.flat_lang.specs.declared.flat.Flat.{Flat}
 use Rattle.reg_alloc.specs.declared.plan.Plan.{Plan}
 use Rattle.reg_alloc.specs.declared.watch.Watch.{Watch}
-use Rattle.reg_alloc.specs.declared.watch.Watch.TheVariants.{Places, Lists}
+use Rattle.reg_alloc.specs.declared.watch.Watch.TheVariants.{Places, Lists, Conflicts}
 use Rattle.reg_alloc.specs.PlanOk.{is_place}
 use Rattle.reg_alloc.specs.Kept.{number}
 use Rattle.reg_alloc.specs.Marks.{Marks, alone}
@@ -39,6 +39,7 @@ arguments_fit args places set = all_below args (λ u. not (slice_index_or set u 
 abbrev pub fits_to_start : ℕ → Marks → Watch → Bool
 fits_to_start args set (Places places fit) = fit && arguments_fit args places (front_from args 0 set)
 fits_to_start args set (Lists vars lists) = false
+fits_to_start args set (Conflicts conflicts) = false
 
 abbrev pub code_fits : Flat → List ℕ → Bool
 code_fits flat places = fits_to_start flat.args (at_start flat) ((code_visit flat.body).note (at_end flat) (Places places true))
@@ -50,6 +51,7 @@ plan_fits flat plan =
 abbrev pub lists_of : Watch → List (List ℕ)
 lists_of (Places places fit) = []
 lists_of (Lists vars lists) = lists
+lists_of (Conflicts conflicts) = []
 
 -- the lists are kept from the last to the first, and the start's is the last to be kept
 abbrev pub live_lists : Flat → List (List ℕ)

@@ -1,8 +1,8 @@
 -- The code over places does what the code over variables does.
 use Rattle.std.specs.Prelude.{◌≡◌, ℕ, ◌+◌, List, Option, Some, None, Ok, slice_get}
 use Rattle.std.specs.FinMap.{get}
+use Rattle.rv_memory.specs.Ranges.{Bytes}
 use Rattle.bed_syntax.specs.declared.weights.Weights.{Weights}
-use Rattle.bed_meaning.specs.Access.{Bytes}
 use Rattle.flat_lang.specs.declared.flat.FStmt.{FStmt}
 use Rattle.flat_lang.specs.declared.flat.Flat.{Flat}
 use Rattle.flat_lang.specs.State.{State, Vars}

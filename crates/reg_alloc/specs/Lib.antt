@@ -4,5 +4,4 @@ pub mod Liveness
 pub mod Marks
 pub mod PlanOk
 pub mod Registers
-pub mod Slots
 pub mod Visit

@@ -1,15 +1,21 @@
 -- The walk over statements from the end to the start, over sets of live variables.
-use Rattle.std.specs.Prelude.{ℕ, true, false, ◌&&◌, List, [], ◌∷◌, ◌++◌, map, Option, Some, None, slice_set}
+use Rattle.std.specs.Prelude.{ℕ, true, false, ◌&&◌, List, [], ◌∷◌, ◌++◌, map, Option, Some, None, slice_set, slice_index_or}
 use Rattle.flat_lang.specs.declared.flat.FStmt.{FStmt, FStmt-F, fold-FStmt}
 use Rattle.flat_lang.specs.declared.flat.FStmt.TheOpen as f
 use Rattle.reg_alloc.specs.declared.watch.Watch.{Watch}
-use Rattle.reg_alloc.specs.declared.watch.Watch.TheVariants.{Places, Lists}
+use Rattle.reg_alloc.specs.declared.watch.Watch.TheVariants.{Places, Lists, Conflicts}
 use Rattle.reg_alloc.specs.Marks.{Marks, blank, either, listed, alone}
+
+-- what is in the set is put into the set of x
+abbrev pub met : List Marks → ℕ → Marks → List Marks
+met conflicts x set = slice_set conflicts x (either (slice_index_or conflicts x []) set)
 
 -- what is kept of a statement, by what it writes and what is live after it
 abbrev pub seen : Option ℕ → Marks → Watch → Watch
 seen None set (Places places fit) = Places places fit
 seen (Some x) set (Places places fit) = Places places (fit && alone places x set)
+seen None set (Conflicts conflicts) = Conflicts conflicts
+seen (Some x) set (Conflicts conflicts) = Conflicts (met conflicts x set)
 seen writes set (Lists vars lists) = Lists vars (lists ++ listed vars set ∷ [])
 
 -- a piece of code: what is live before it, and what is kept of its statements, by what is live after it

@@ -1,21 +1,23 @@
 //! Liveness, and whether a plan serves a code.
-ghost use Rattle.std.specs.Prelude.{◌≡◌, ◌↔◌, true, map, reverse, IfOk};
+ghost use Rattle.std.specs.Prelude.{◌≡◌, ◌≤◌, ◌↔◌, ℕ, suc, true, map, reverse, IfOk};
+ghost use Rattle.flat_lang.specs.Paths.{flat_ways};
 ghost use Rattle.rup_base.specs.Gather.{all_true};
-ghost use Rattle.reg_alloc.specs.Check.{marked, at_end, front_from, arguments_fit, fits_to_start, code_fits, lists_of, live_lists, plan_fits};
+ghost use Rattle.reg_alloc.specs.Check.{marked, at_end, at_start, front_from, arguments_fit, fits_to_start, code_fits, lists_of, live_lists, plan_fits};
 ghost use Rattle.reg_alloc.specs.Kept.{number};
-ghost use Rattle.reg_alloc.specs.Liveness.{IsLiveness};
+ghost use Rattle.reg_alloc.specs.Liveness.{IsLiveness, read_first};
+ghost use Rattle.reg_alloc.specs.Marks.{listed};
 ghost use Rattle.reg_alloc.specs.PlanOk.{PlanOk, is_place};
 
 use crate::marks::{empty, holds, mark};
 use crate::plan::{At, Live, Plan};
-use crate::visit::walk_all;
-use crate::watch::{Watch, is_alone, see};
+use crate::visit::{back_all, walk_all};
+use crate::watch::{Watch, is_alone, numbers_in, see};
 use flat_lang::Flat;
 use rup_base::{List, NoMemory};
 use std::alloc::Global;
 
 /// What is live at the end.
-fn live_at_end(alloc: Global, f: &Flat) -> Result<Vec<bool>, NoMemory>
+pub fn live_at_end(alloc: Global, f: &Flat) -> Result<Vec<bool>, NoMemory>
     ensures { IfOk result (λ set. set.items ≡ at_end f.now) }
 {
     let mut set = empty(alloc, f.vars as usize)?;
@@ -56,13 +58,30 @@ fn from_start(alloc: Global, watch: Watch) -> List<List<u32>>
     ensures { result ≡ reverse (lists_of watch) }
 {
     match watch {
-        Watch::Places(_, _) => List::new(alloc),
+        Watch::Places(_, _) | Watch::Conflicts(_) => List::new(alloc),
         Watch::Lists(_, lists) => {
             let mut lists = lists.into_vec();
             lists.reverse();
             List::from_vec(lists)
         }
     }
+}
+
+/// The arguments that are live at the start, in their order: those that some path reads before it writes them.
+#[tactic(auto)]
+pub fn live_arguments(alloc: Global, f: &Flat) -> Result<List<u32>, NoMemory>
+    requires { f.now.args ≤ f.now.vars }
+    ensures { IfOk result (λ live. (n : ℕ) → live ≡ read_first f.now.args (flat_ways (suc n) f.now)) }
+{
+    marked_arguments(alloc, f)
+}
+
+fn marked_arguments(alloc: Global, f: &Flat) -> Result<List<u32>, NoMemory>
+    ensures { IfOk result (λ live. live ≡ listed f.now.args (at_start f.now)) }
+{
+    let mut set = live_at_end(alloc, f)?;
+    back_all(alloc, f.body.as_slice(), &mut set)?;
+    numbers_in(alloc, f.args, set.as_slice())
 }
 
 /// Whether a plan serves a code: each variable has one place, and none is written over while it is needed.
@@ -100,12 +119,12 @@ fn fits_at_start(alloc: Global, args: u32, set: &[bool], watch: &Watch) -> Resul
             let front = front(alloc, args, set)?;
             Ok(*fit & are_apart(args, places.as_slice(), front.as_slice()))
         }
-        Watch::Lists(_, _) => Ok(false),
+        Watch::Lists(_, _) | Watch::Conflicts(_) => Ok(false),
     }
 }
 
 /// The variables of the set that are below a number.
-fn front(alloc: Global, args: u32, set: &[bool]) -> Result<Vec<bool>, NoMemory>
+pub fn front(alloc: Global, args: u32, set: &[bool]) -> Result<Vec<bool>, NoMemory>
     ensures { IfOk result (λ front. front.items ≡ front_from args 0 set.now) }
 {
     let mut front = Vec::new(alloc);

@@ -3,18 +3,19 @@
 
 mod allocation;
 mod checking;
-mod laws;
+pub mod laws;
 mod marks;
+mod places;
 mod plan;
-mod registers;
+mod sharing;
+mod uses;
 mod visit;
 mod watch;
 
 pub use allocation::allocate;
-pub use checking::{check_plan, live};
+pub use checking::{check_plan, live, live_arguments};
 pub use laws::places_keep;
 pub use plan::{At, Live, Plan};
-pub use registers::allocate_registers;
 
 #[cfg(test)]
 mod tests;

@@ -1,11 +1,12 @@
 //! What is kept of the statements in a walk from the end of a code to its start.
 ghost use Rattle.std.specs.Prelude.{◌≡◌, false, not, ◌&&◌, ◌||◌, nat_eq, slice_index_or, OnOk, IfOk};
 ghost use Rattle.reg_alloc.specs.Marks.{listed, alone, alone_from};
-ghost use Rattle.reg_alloc.specs.Visit.{seen};
+ghost use Rattle.reg_alloc.specs.Visit.{met, seen};
 
-use crate::marks::holds;
+use crate::marks::{holds, union};
 use rup_base::{List, NoMemory};
 use std::alloc::Global;
+use std::mem;
 
 #[derive(Drop)]
 pub enum Watch {
@@ -13,6 +14,8 @@ pub enum Watch {
     Places(List<u64>, bool),
     /// The number of variables, and for each statement, the last first, those that are live after it.
     Lists(u32, List<List<u32>>),
+    /// For each variable the set of those that are live after a statement that writes it.
+    Conflicts(List<List<bool>>),
 }
 
 /// The variables in the set.
@@ -62,6 +65,24 @@ fn shares_none(places: &[u64], place: u64, x: usize, set: &[bool]) -> bool
     true
 }
 
+/// Puts what is live after a statement that writes `x` into the set of `x`.
+fn meet(
+    alloc: Global,
+    conflicts: List<List<bool>>,
+    x: u32,
+    set: &[bool],
+) -> Result<List<List<bool>>, NoMemory>
+    ensures { IfOk result (λ all. all ≡ met conflicts x set.now) }
+{
+    let x = x as usize;
+    let mut conflicts = conflicts.into_vec();
+    if x < conflicts.len() {
+        let all = union(alloc, conflicts[x].as_slice(), set)?;
+        conflicts[x] = List::from_vec(all);
+    }
+    Ok(List::from_vec(conflicts))
+}
+
 /// A statement is kept, by what it writes and what is live after it.
 pub fn see(
     alloc: Global,
@@ -78,6 +99,12 @@ pub fn see(
             }
         }
         Watch::Lists(vars, lists) => lists.push(numbers_in(alloc, *vars, set)?)?,
+        Watch::Conflicts(conflicts) => {
+            if let Some(x) = writes {
+                let before = mem::replace(conflicts, List::new(alloc));
+                *conflicts = meet(alloc, before, x, set)?;
+            }
+        }
     }
     Ok(())
 }

@@ -1,19 +1,19 @@
--- Conditionals and loops run as they mean, where what they hold does.
-use Rattle.std.proofs.Common.{◌≡◌, ℕ, zero, suc, ◌+◌, ◌<◌, ◌≤◌, List, [], ◌∷◌, ◌++◌, length, Result, subst, arith, length-append}
+-- Conditionals run as they mean, where their sides do.
+use Rattle.std.proofs.Common.{◌≡◌, ℕ, zero, suc, ◌+◌, ◌<◌, ◌≤◌, List, [], ◌∷◌, ◌++◌, length, refl, subst, arith, length-append}
 use Rattle.std.specs.FinMap.{get}
+use Rattle.bed_meaning.specs.State.{spend}
+use Rattle.bed_meaning.specs.Fuelled.{given, fuelled, choose}
 use Rattle.bed_syntax.specs.declared.weights.Weights.{Weights}
-use Rattle.bed_meaning.specs.declared.halt.Halt.{Halt}
-use Rattle.flat_lang.specs.State.{Vars, spend}
+use Rattle.flat_lang.specs.State.{Vars}
 use Rattle.flat_lang.specs.State as flat
-use Rattle.flat_lang.specs.Meaning.{Rule, given, fuelled, choose}
+use Rattle.flat_lang.specs.Meaning.{Rule}
 use Rattle.rv_code.specs.declared.instruction.Instr.{Instr}
 use Rattle.rv_machine.specs.State.{State, register}
-use Rattle.rv_memory.specs.Ranges.{Bytes}
-use Rattle.rv_emit.specs.Code.{Code, fetch, jump, skip, sides}
-use Rattle.rv_emit.proofs.Site.{Site, Sound, Before}
-use Rattle.rv_emit.proofs.Runs.{Has, HasAll, has_front, has_back, Reaches, step_reach, given_reach, fuelled_reach, later}
-use Rattle.rv_emit.proofs.Places.{fetch_reach}
-use Rattle.rv_emit.proofs.Jumps.{Moves, jump_moves, skip_taken, skip_passed, then_move}
+use Rattle.rv_emit.specs.Code.{Code, place_of, register_of, from_slot, jump, over, if_code}
+use Rattle.rv_emit.proofs.Site.{Site, IsValid, Sound, Before, register_small}
+use Rattle.rv_emit.proofs.Runs.{Has, HasAll, has_front, has_back, Reaches, at_place, given_reach, fuelled_reach, later}
+use Rattle.rv_emit.proofs.Places.{operand_reach}
+use Rattle.rv_emit.proofs.Jumps.{jump_moves, over_stays, over_goes, then_move}
 use Rattle.rv_emit.proofs.Straight.{Enough}
 
 -- there is an instruction behind the last
@@ -24,75 +24,115 @@ has_room code k i (j ∷ rest) has =
     omega arith
 
 module _ (l : Site) (m : State) (sound : Sound l m) where
-  -- code does what a rule means, wherever it stands
+  -- code does what a rule means, wherever it stands with so many instructions behind it
   abbrev pub Runs : Code → Rule → Type 0
-  Runs code rule = (k : ℕ) (f : flat.State) (s : State) → HasAll l.code k (code k) → Before l m f.mem f.vars k s → Reaches l m sound f.ticks (k + length (code k)) s (rule f)
+  Runs code rule = (k n : ℕ) (f : flat.State) (s : State) → HasAll l.code k (code n) → k + length (code n) + n ≡ length l.code → Before l m f.mem f.vars k s → Reaches l m sound f.ticks (k + length (code n)) s (rule f)
 
-  pub at_place : (t k k2 : ℕ) (s : State) (r : Result flat.State Halt) → k ≡ k2 → Reaches l m sound t k s r → Reaches l m sound t k2 s r
-  at_place t k k2 s r same reach = subst (λ n. Reaches l m sound t n s r) same reach
+-- where the parts of a conditional stand
+record Sides (l : Site) (k n test first join second end : ℕ) (front : List Instr) (r : ℕ) (a b : Code) : Type 0 where
+  test_is : test ≡ k + length front
+  first_is : first ≡ test + length (over r (length (a (length (b n) + suc n)) + 1))
+  join_is : join ≡ first + length (a (length (b n) + suc n))
+  second_is : second ≡ join + 1
+  end_is : end ≡ second + length (b n)
+  last_are : end + n ≡ length l.code
+  fetches : HasAll l.code k front
+  tests : HasAll l.code test (over r (length (a (length (b n) + suc n)) + 1))
+  first_stands : HasAll l.code first (a (length (b n) + suc n))
+  leaves : Has l.code join (jump (length (b n) + 1))
+  second_stands : HasAll l.code second (b n)
+  room : end < length l.code
 
-  -- an instruction that only moves, and the run behind it
-  pub move_on : (t k2 : ℕ) (mem : Bytes) (vars : Vars) (k k1 : ℕ) (i : Instr) (s : State) (r : Result flat.State Halt) → Before l m mem vars k s → Has l.code k i → Moves l m sound mem vars i k1 s → ((u : State) → Before l m mem vars k1 u → Reaches l m sound (t + 1) k2 u r) → Reaches l m sound t k2 s r
-  move_on t k2 mem vars k k1 i s r before has moves on = step_reach l m sound t k2 mem vars k i s moves.after r before has moves.does (on moves.after moves.stands)
+sides_of : (l : Site) (k n : ℕ) (front : List Instr) (r : ℕ) (a b : Code)
+    → HasAll l.code k (front ++ (over r (length (a (length (b n) + suc n)) + 1) ++ (a (length (b n) + suc n) ++ jump (length (b n) + 1) ∷ b n)))
+    → k + length (front ++ (over r (length (a (length (b n) + suc n)) + 1) ++ (a (length (b n) + suc n) ++ jump (length (b n) + 1) ∷ b n))) + n ≡ length l.code
+    → Sides l k n (k + length front) (k + length front + length (over r (length (a (length (b n) + suc n)) + 1)))
+    (k + length front + length (over r (length (a (length (b n) + suc n)) + 1)) + length (a (length (b n) + suc n)))
+    (k + length front + length (over r (length (a (length (b n) + suc n)) + 1)) + length (a (length (b n) + suc n)) + 1)
+    (k + length (front ++ (over r (length (a (length (b n) + suc n)) + 1) ++ (a (length (b n) + suc n) ++ jump (length (b n) + 1) ∷ b n)))) front r a b
+sides_of l k n front r a b has last_are =
+    let first = a (length (b n) + suc n) in
+    let test = over r (length first + 1) in
+    let behind = jump (length (b n) + 1) ∷ b n in
+    let size1 = length-append front (test ++ (first ++ behind)) in
+    let size2 = length-append test (first ++ behind) in
+    let size3 = length-append first behind in
+    let has1 = has_back l.code k front (test ++ (first ++ behind)) has in
+    let has2 = has_back l.code (k + length front) test (first ++ behind) has1 in
+    let has3 = has_back l.code (k + length front + length test) first behind has2 in
+    let room = has_room l.code (k + length front + length test + length first) (jump (length (b n) + 1)) (b n) has3 in
+    record {
+      test_is = refl;
+      first_is = refl;
+      join_is = refl;
+      second_is = refl;
+      end_is = omega arith;
+      last_are = last_are;
+      fetches = has_front l.code k front (test ++ (first ++ behind)) has;
+      tests = has_front l.code (k + length front) test (first ++ behind) has1;
+      first_stands = has_front l.code (k + length front + length test) first behind has2;
+      leaves = has3.0;
+      second_stands = has3.1;
+      room = omega arith;
+    }
 
-  -- the sides behind the test: the first, and the jump over the second
-  first_side : (t k : ℕ) (g : flat.State) (s : State) (a b : Code) (ra : Rule) → Runs a ra → HasAll l.code k (sides a b k) → Before l m g.mem g.vars (k + 1) s → t + 1 ≤ g.ticks → Reaches l m sound t (k + length (sides a b k)) s (ra g)
-  first_side t k g s a b ra runs has stands in_time =
-      let first = a (k + 1) in
-      let second = b (k + 2 + length first) in
-      let front = has_front l.code (k + 1) first (jump (length second + 1) ∷ second) has.1 in
-      let behind = has_back l.code (k + 1) first (jump (length second + 1) ∷ second) has.1 in
-      let room = has_room l.code k (jump (length first + 2)) (first ++ jump (length second + 1) ∷ second) has in
-      let size = length-append first (jump (length second + 1) ∷ second) in
-      let k1 = k + 1 + length first in
-      let end : k1 + (length second + 1) ≡ k + length (sides a b k) = omega arith in
-      let side = later l m sound (t + 1) g.ticks k1 s (ra g) in_time (runs (k + 1) g s front stands) in
-      at_place t (k1 + (length second + 1)) (k + length (sides a b k)) s (ra g) end
-      (then_move l m sound t k1 (k1 + (length second + 1)) (jump (length second + 1)) s (ra g) side behind.0 (λ mem vars u before. jump_moves l m sound mem vars k1 (length second + 1) u before (omega arith)))
+module _ (l : Site) (m : State) (sound : Sound l m) (w : Weights) (k n x : ℕ) (a b : Code) (ra rb : Rule) (runs_a : Runs l m sound a ra) (runs_b : Runs l m sound b rb) (test first join second end : ℕ) (sides : Sides l k n test first join second end (from_slot 5 (place_of x)) (register_of 5 (place_of x)) a b) where
+  first_side : (t : ℕ) (g : flat.State) (s : State) → Before l m g.mem g.vars first s → t + 1 ≤ g.ticks → Reaches l m sound t end s (ra g)
+  first_side t g s before in_time =
+      let join_is = sides.join_is in
+      let second_is = sides.second_is in
+      let end_is = sides.end_is in
+      let room = sides.room in
+      let last_are = sides.last_are in
+      let place : first + length (a (length (b n) + suc n)) ≡ join = omega arith in
+      let does = runs_a first (length (b n) + suc n) g s sides.first_stands (omega arith) before in
+      let side = later l m sound (t + 1) g.ticks join s (ra g) in_time (at_place l m sound g.ticks (first + length (a (length (b n) + suc n))) join s (ra g) place does) in
+      at_place l m sound t (join + (length (b n) + 1)) end s (ra g) (omega arith)
+      (then_move l m sound t join (join + (length (b n) + 1)) (jump (length (b n) + 1)) s (ra g) side sides.leaves (λ mem vars u stands. jump_moves l m sound mem vars join (length (b n) + 1) u stands (omega arith)))
 
-  second_side : (t k : ℕ) (g : flat.State) (s : State) (a b : Code) (rb : Rule) → Runs b rb → HasAll l.code k (sides a b k) → Before l m g.mem g.vars k s → t + 1 ≤ g.ticks → Reaches l m sound t (k + length (sides a b k)) s (rb g)
-  second_side t k g s a b rb runs has before in_time =
-      let first = a (k + 1) in
-      let k2 = k + 2 + length first in
-      let second = b k2 in
-      let behind = has_back l.code (k + 1) first (jump (length second + 1) ∷ second) has.1 in
-      let size = length-append first (jump (length second + 1) ∷ second) in
-      let room = has_room l.code k (jump (length first + 2)) (first ++ jump (length second + 1) ∷ second) has in
-      let here : k + 1 + length first + 1 ≡ k2 = omega arith in
-      let target : k + (length first + 2) ≡ k2 = omega arith in
-      let end : k2 + length second ≡ k + length (sides a b k) = omega arith in
-      move_on t (k + length (sides a b k)) g.mem g.vars k (k + (length first + 2)) (jump (length first + 2)) s (rb g) before has.0 (jump_moves l m sound g.mem g.vars k (length first + 2) s before (omega arith)) (λ u stands.
-      at_place (t + 1) (k2 + length second) (k + length (sides a b k)) u (rb g) end (later l m sound (t + 1) g.ticks (k2 + length second) u (rb g) in_time
-      (runs k2 g u (subst (λ n. HasAll l.code n second) here behind.1) (subst (λ n. Before l m g.mem g.vars n u) target stands))))
+  second_side : (t : ℕ) (g : flat.State) (s : State) → Before l m g.mem g.vars second s → t ≤ g.ticks → Reaches l m sound t end s (rb g)
+  second_side t g s before in_time =
+      let end_is = sides.end_is in
+      let last_are = sides.last_are in
+      let does = runs_b second n g s sides.second_stands (omega arith) before in
+      later l m sound t g.ticks end s (rb g) in_time (at_place l m sound g.ticks (second + length (b n)) end s (rb g) (omega arith) does)
 
-  pub if_reach : (w : Weights) → Enough w → (k : ℕ) (f : flat.State) (s : State) (x : ℕ) (a b : Code) (ra rb : Rule) → Runs a ra → Runs b rb → Before l m f.mem f.vars k s → HasAll l.code k (fetch 5 (l.place x) ∷ skip ∷ sides a b (k + 2)) → Reaches l m sound f.ticks (k + length (fetch 5 (l.place x) ∷ skip ∷ sides a b (k + 2))) s (fuelled (λ g. given (get g.vars x) (λ v. choose v ra rb (spend w.test g))) f)
-  if_reach w enough k f s x a b ra rb first second before has =
-      let k2 = k + length (fetch 5 (l.place x) ∷ skip ∷ sides a b (k + 2)) in
-      fuelled_reach l m sound f.ticks k2 s (λ g. given (get g.vars x) (λ v. choose v ra rb (spend w.test g))) f (λ n.
-      let g : flat.State = spend w.test (record { fuel = n; ticks = f.ticks; mem = f.mem; vars = f.vars }) in
-      given_reach l m sound f.ticks k2 s (get f.vars x) (λ v. choose v ra rb g) (λ v found.
-      fetch_reach l m sound f.ticks k2 f.mem f.vars k s 5 x v (choose v ra rb g) (omega arith) (omega arith) before has.0 found (λ u stands is.
-      tested n v u stands is.value)))
-    where
-      two : k + 1 + 1 ≡ k + 2
-      two = omega arith
+  tested : (v t : ℕ) (g : flat.State) (s : State) → IsValid l (place_of x) → Before l m g.mem g.vars test s → register s.regs (register_of 5 (place_of x)) ≡ v → t + 2 ≤ g.ticks → Reaches l m sound t end s (choose v ra rb g)
+  tested zero t g s valid before holds in_time =
+      let r = register_of 5 (place_of x) in
+      let small = register_small l m sound 5 (place_of x) (omega arith) valid in
+      let first_is = sides.first_is in
+      let join_is = sides.join_is in
+      let second_is = sides.second_is in
+      let end_is = sides.end_is in
+      let room = sides.room in
+      let skipped = length (a (length (b n) + suc n)) + 1 in
+      let target : test + length (over r skipped) + skipped ≡ second = omega arith in
+      over_goes l m sound t end g.mem g.vars test s r skipped (rb g) small before sides.tests holds (omega arith) (λ u stands.
+      second_side (t + 2) g u (subst (λ q. Before l m g.mem g.vars q u) target stands) in_time)
+  tested (suc v) t g s valid before holds in_time =
+      let r = register_of 5 (place_of x) in
+      let small = register_small l m sound 5 (place_of x) (omega arith) valid in
+      let first_is = sides.first_is in
+      let skipped = length (a (length (b n) + suc n)) + 1 in
+      let target : test + length (over r skipped) ≡ first = omega arith in
+      over_stays l m sound t end g.mem g.vars test s r skipped v (ra g) small before sides.tests holds (λ u stands.
+      first_side (t + 1) g u (subst (λ q. Before l m g.mem g.vars q u) target stands) (omega arith))
 
-      end : k + 2 + length (sides a b (k + 2)) ≡ k + length (fetch 5 (l.place x) ∷ skip ∷ sides a b (k + 2))
-      end = omega arith
+  side_reach : (enough : Enough w l) (f : flat.State) (s : State) → Before l m f.mem f.vars k s → Reaches l m sound f.ticks end s (fuelled (λ g. given (get g.vars x) (λ v. choose v ra rb (spend w.test g))) f)
+  side_reach enough f s before =
+      fuelled_reach l m sound f.ticks end s (λ g. given (get g.vars x) (λ v. choose v ra rb (spend w.test g))) f (λ left.
+      let g : flat.State = spend w.test (record { fuel = left; ticks = f.ticks; mem = f.mem; vars = f.vars }) in
+      given_reach l m sound f.ticks end s (get f.vars x) (λ v. choose v ra rb g) (λ v found.
+      let h = before.held x v found in
+      let in_time = enough.test (place_of x) h.valid in
+      let test_is = sides.test_is in
+      operand_reach l m sound f.ticks end f.mem f.vars k s 5 x v (choose v ra rb g) (omega arith) (omega arith) before sides.fetches found (λ u stands is.
+      let here : k + length (from_slot 5 (place_of x)) ≡ test = omega arith in
+      tested v (f.ticks + length (from_slot 5 (place_of x))) g u h.valid (subst (λ q. Before l m f.mem f.vars q u) here stands) is.value (omega (arith, in_time)))))
 
-      both : HasAll l.code (k + 2) (sides a b (k + 2))
-      both = subst (λ n. HasAll l.code n (sides a b (k + 2))) two has.1.1
-
-      tested : (n v : ℕ) (u : State) → Before l m f.mem f.vars (k + 1) u → register u.regs 5 ≡ v → Reaches l m sound (f.ticks + 1) (k + length (fetch 5 (l.place x) ∷ skip ∷ sides a b (k + 2))) u (choose v ra rb (spend w.test (record { fuel = n; ticks = f.ticks; mem = f.mem; vars = f.vars })))
-      tested n zero u stands holds =
-          let g : flat.State = spend w.test (record { fuel = n; ticks = f.ticks; mem = f.mem; vars = f.vars }) in
-          move_on (f.ticks + 1) (k + length (fetch 5 (l.place x) ∷ skip ∷ sides a b (k + 2))) f.mem f.vars (k + 1) (k + 1 + 1) skip u (rb g) stands has.1.0 (skip_passed l m sound f.mem f.vars (k + 1) u stands has.1.0 holds) (λ t after.
-          at_place (f.ticks + 1 + 1) (k + 2 + length (sides a b (k + 2))) (k + length (fetch 5 (l.place x) ∷ skip ∷ sides a b (k + 2))) t (rb g) end
-          (second_side (f.ticks + 1 + 1) (k + 2) g t a b rb second both (subst (λ n. Before l m f.mem f.vars n t) two after) (omega (arith, enough.test))))
-      tested n (suc v) u stands holds =
-          let g : flat.State = spend w.test (record { fuel = n; ticks = f.ticks; mem = f.mem; vars = f.vars }) in
-          let three : k + 1 + 2 ≡ k + 2 + 1 = omega arith in
-          let next = both.0.next in
-          move_on (f.ticks + 1) (k + length (fetch 5 (l.place x) ∷ skip ∷ sides a b (k + 2))) f.mem f.vars (k + 1) (k + 1 + 2) skip u (ra g) stands has.1.0 (skip_taken l m sound f.mem f.vars (k + 1) v u stands holds (omega arith)) (λ t after.
-          at_place (f.ticks + 1 + 1) (k + 2 + length (sides a b (k + 2))) (k + length (fetch 5 (l.place x) ∷ skip ∷ sides a b (k + 2))) t (ra g) end
-          (first_side (f.ticks + 1 + 1) (k + 2) g t a b ra first both (subst (λ n. Before l m f.mem f.vars n t) three after) (omega (arith, enough.test))))
+module _ (l : Site) (m : State) (sound : Sound l m) (w : Weights) (enough : Enough w l) where
+  pub if_reach : (x : ℕ) (a b : Code) (ra rb : Rule) → Runs l m sound a ra → Runs l m sound b rb → Runs l m sound (if_code (place_of x) a b) (fuelled (λ g. given (get g.vars x) (λ v. choose v ra rb (spend w.test g))))
+  if_reach x a b ra rb runs_a runs_b = λ k n f s has last_are before.
+      let sides = sides_of l k n (from_slot 5 (place_of x)) (register_of 5 (place_of x)) a b has last_are in
+      side_reach l m sound w k n x a b ra rb runs_a runs_b _ _ _ _ (k + length (if_code (place_of x) a b n)) sides enough f s before

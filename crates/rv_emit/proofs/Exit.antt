@@ -1,5 +1,5 @@
 -- The results go into a0 and a1, the frame is given back, and the code returns.
-use Rattle.std.proofs.Common.{◌≡◌, ◌≢◌, ℕ, zero, suc, ◌+◌, ◌*◌, ◌%◌, ◌<◌, ◌≤◌, List, [], ◌∷◌, length, true, Option, Some, None, IsSome, Ok, slice_get, refl, sym, ap, ◌∙◌, subst, arith}
+use Rattle.std.proofs.Common.{◌≡◌, ◌≢◌, ℕ, zero, suc, ◌+◌, ◌*◌, ◌%◌, ◌<◌, ◌≤◌, List, [], ◌∷◌, length, Option, Some, None, IsSome, Ok, slice_get, refl, sym, ap, ◌∙◌, subst, arith}
 use Rattle.std.specs.List.{AllByRecursion}
 use Rattle.std.specs.FinMap.{get}
 use Rattle.flat_lang.specs.State.{Vars}
@@ -18,7 +18,7 @@ use Rattle.rv_machine.proofs.laws.Registers.{length-with_register, register-with
 use Rattle.rv_machine.proofs.laws.Rows.{step_by}
 use Rattle.rv_machine.proofs.laws.Runs.{Leads, stays, leads_on, leads_then}
 use Rattle.rv_machine.proofs.laws.Table.{row_of}
-use Rattle.rv_emit.specs.Code.{fetch}
+use Rattle.rv_emit.specs.Code.{place_of, fetch}
 use Rattle.rv_emit.specs.Whole.{moves_out}
 use Rattle.rv_emit.proofs.Does.{loads_is, slot_offset, nothing_added}
 use Rattle.rv_emit.proofs.Site.{Site, InCode, IsValid, Sound, Memory, Holds, Before}
@@ -54,20 +54,19 @@ pub record Late (l : Site) (m e : State) (k : ℕ) (s : State) : Type 0 where
   pub mem : s.mem ≡ e.mem
   pub others : (r : ℕ) → r ≢ 10 → r ≢ 11 → register s.regs r ≡ register e.regs r
 
-module _ (l : Site) (m : State) (sound : Sound l m) (mem : Bytes) (vars : Vars) (ke : ℕ) (e : State) (ended : Before l m mem vars ke e) where
+module _ (l : Site) (m : State) (sound : Sound l m) (mem : Bytes) (vars : Vars) (ke : ℕ) (e : State) (ended : Before l m mem vars ke e) (num : ℕ → ℕ) where
   pub stood_late : (k : ℕ) (s : State) → Late l m e k s → Stood l m sound mem k s
   stood_late k s late = record { pc = late.pc; memory = subst (λ b. Memory l m mem b) (sym late.mem) ended.memory }
 
-  -- what a variable's place gives
+  -- what a place gives
   record Given (s : State) (d x : ℕ) (p : At) : Type 0 where
     value : ℕ
     does : effect (fetch d p) s ≡ gives s d value
     is : (v : ℕ) → get vars x ≡ Some v → value ≡ v
 
-  given_slot : (k : ℕ) (s : State) (d x j : ℕ) (o : Option ℕ) → d < 32 → Late l m e k s → x < l.vars → l.place x ≡ Slot j → number_at e.mem 4 (l.base + 4 * j) ≡ o → IsSome o → Given s d x (Slot j)
+  given_slot : (k : ℕ) (s : State) (d x j : ℕ) (o : Option ℕ) → d < 32 → Late l m e k s → j < l.slots → place_of x ≡ Slot j → number_at e.mem 4 (l.base + 4 * j) ≡ o → IsSome o → Given s d x (Slot j)
   given_slot k s d x j None small late below is found some = absurd (cc)
   given_slot k s d x j (Some v) small late below is found some =
-      let valid : j < l.slots = subst (λ p. IsValid l p) is (sound.valid x below) in
       let same : d % 32 ≡ d = omega arith in
       let sp : register s.regs 2 ≡ l.base = late.others 2 (λ q. omega arith) (λ q. omega arith) ∙ ended.sp in
       let address : plus (register s.regs 2) (extended 2048 (4 * j % 4096)) ≡ l.base + 4 * j = rw sp (slot_offset l.base j (omega (arith, sound.few, sound.fit)) (omega (arith, sound.frame_ends, sound.fit))) in
@@ -78,13 +77,11 @@ module _ (l : Site) (m : State) (sound : Sound l m) (mem : Bytes) (vars : Vars) 
         is = λ w set. let h : Holds l e (Slot j) w = subst (λ p. Holds l e p w) is ((ended.held x w set).there) in cc;
       }
 
-  given_at : (k : ℕ) (s : State) (d x : ℕ) (p : At) → d < 32 → Late l m e k s → x < l.vars → l.place x ≡ p → Given s d x p
+  given_at : (k : ℕ) (s : State) (d x : ℕ) (p : At) → d < 32 → Late l m e k s → IsValid l p → place_of x ≡ p → Given s d x p
   given_at k s d x (Slot j) small late below is =
-      let valid : j < l.slots = subst (λ p. IsValid l p) is (sound.valid x below) in
       let mapped : IsSome (number_at e.mem 4 (l.base + 4 * j)) = is_some-number_at 4 e.mem (l.base + 4 * j) (λ q low high. ended.memory.stay q (sound.mapped q (omega arith, omega (arith, sound.fit)))) in
       given_slot k s d x j (number_at e.mem 4 (l.base + 4 * j)) small late below is refl mapped
-  given_at k s d x (Register r) small late below is =
-      let valid : l.held r ≡ true = subst (λ p. IsValid l p) is (sound.valid x below) in
+  given_at k s d x (Register r) small late valid is =
       let from = sound.from r valid in
       let to = sound.to r valid in
       let same : d % 32 ≡ d = omega arith in
@@ -104,18 +101,18 @@ module _ (l : Site) (m : State) (sound : Sound l m) (mem : Bytes) (vars : Vars) 
   pub record Results (q : ℕ) (rets : List ℕ) (k n : ℕ) (s u : State) : Type 0 where
     pub run : Leads (InCode l) s n u
     pub late : Late l m e k u
-    pub set : (p x v : ℕ) → slice_get rets p ≡ Some x → get vars x ≡ Some v → register u.regs (10 + q + p) ≡ v
+    pub set : (p x v : ℕ) → slice_get rets p ≡ Some x → get vars (num x) ≡ Some v → register u.regs (10 + q + p) ≡ v
     pub earlier : (r : ℕ) → r < 10 + q → register u.regs r ≡ register s.regs r
 
-  pub results_lead : (rets : List ℕ) (q k : ℕ) (s : State) → q + length rets ≤ 2 → AllByRecursion (λ x. x < l.vars) rets → Late l m e k s → HasAll l.code k (moves_out l.place q rets) → (u : State) × Results q rets (k + length rets) (length rets) s u
+  pub results_lead : (rets : List ℕ) (q k : ℕ) (s : State) → q + length rets ≤ 2 → AllByRecursion (λ x. IsValid l (place_of (num x))) rets → Late l m e k s → HasAll l.code k (moves_out (λ x. place_of (num x)) q rets) → (u : State) × Results q rets (k + length rets) (length rets) s u
   results_lead [] q k s few known late has =
       let none : k ≡ k + 0 = omega arith in
       (s, record { run = stays (InCode l) s; late = subst (λ n. Late l m e n s) none late; set = λ p x v found is. absurd (cc); earlier = λ r below. refl })
   results_lead (x ∷ rets) q k s few known late has =
-      let given = given_at k s (10 + q) x (l.place x) (omega arith) late known.0 refl in
+      let given = given_at k s (10 + q) (num x) (place_of (num x)) (omega arith) late known.0 refl in
       let first : State = set_reg s (10 + q) given.value in
       let next = has.0.next in
-      let run = leads_stood l m sound mem 0 k (fetch (10 + q) (l.place x)) s s first (stays (InCode l) s) (stood_late k s late) (record { stands = has.0.stands; inside = omega arith }) (given.does ∙ gives_is s (10 + q) given.value) in
+      let run = leads_stood l m sound mem 0 k (fetch (10 + q) (place_of (num x))) s s first (stays (InCode l) s) (stood_late k s late) (record { stands = has.0.stands; inside = omega arith }) (given.does ∙ gives_is s (10 + q) given.value) in
       let then : Late l m e (k + 1) first = record {
         pc = omega (arith, late.pc, sound.ends);
         count = length-with_register s.regs (10 + q) given.value ∙ late.count;
@@ -135,11 +132,11 @@ module _ (l : Site) (m : State) (sound : Sound l m) (mem : Bytes) (vars : Vars) 
         },
       )
     where
-      found : (u : State) (value : ℕ) → register (with_register s.regs (10 + q) value) (10 + q) ≡ value → ((v : ℕ) → get vars x ≡ Some v → value ≡ v) → ((p y v : ℕ) → slice_get rets p ≡ Some y → get vars y ≡ Some v → register u.regs (10 + (q + 1) + p) ≡ v) → register u.regs (10 + q) ≡ register (with_register s.regs (10 + q) value) (10 + q) → (p y v : ℕ) → slice_get (x ∷ rets) p ≡ Some y → get vars y ≡ Some v → register u.regs (10 + q + p) ≡ v
+      found : (u : State) (value : ℕ) → register (with_register s.regs (10 + q) value) (10 + q) ≡ value → ((v : ℕ) → get vars (num x) ≡ Some v → value ≡ v) → ((p y v : ℕ) → slice_get rets p ≡ Some y → get vars (num y) ≡ Some v → register u.regs (10 + (q + 1) + p) ≡ v) → register u.regs (10 + q) ≡ register (with_register s.regs (10 + q) value) (10 + q) → (p y v : ℕ) → slice_get (x ∷ rets) p ≡ Some y → get vars (num y) ≡ Some v → register u.regs (10 + q + p) ≡ v
       found u value here is later earlier zero y v at set =
           let same : x ≡ y = cc in
           let none : 10 + q + 0 ≡ 10 + q = omega arith in
-          let value_is : value ≡ v = is v (subst (λ z. get vars z ≡ Some v) (sym same) set) in
+          let value_is : value ≡ v = is v (subst (λ z. get vars (num z) ≡ Some v) (sym same) set) in
           rw none (earlier ∙ here ∙ value_is)
       found u value here is later earlier (suc p) y v at set =
           let same : 10 + q + suc p ≡ 10 + (q + 1) + p = omega arith in

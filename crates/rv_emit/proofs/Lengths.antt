@@ -1,73 +1,80 @@
--- The code of a statement has the stated number of instructions, wherever it stands.
-use Rattle.std.proofs.Common.{◌≡◌, ℕ, ◌+◌, List, [], ◌∷◌, length, map, sum, refl, sym, ap, ◌∙◌, subst, arith, length-append}
-use Rattle.std.proofs.lemmas.Grind.{common_steps}
-use Rattle.flat_lang.specs.declared.flat.FStmt.{FStmt, FStmt-F, fold-roll-FStmt, map-FStmt, roll-FStmt, ind-FStmt}
-use Rattle.flat_lang.specs.declared.flat.FStmt.TheOpen as f
+-- The code of a statement that holds no others is no longer than it weighs, whatever its places are.
+use Rattle.std.proofs.Common.{ℕ, ◌+◌, ◌≤◌, Bool, true, false, List, [], ◌∷◌, ◌++◌, length, arith, length-append}
+use Rattle.bed_syntax.specs.declared.operation.BOp.{BOp}
+use Rattle.bed_syntax.specs.declared.operation.BOp.TheVariants as op
+use Rattle.bed_syntax.specs.declared.operation.Size.{Size}
 use Rattle.reg_alloc.specs.declared.plan.At.{At}
-use Rattle.rv_emit.specs.Code.{Code, fetch, save, operation, skip, jump, jump_back, turn, in_row, stmt_code_step, stmt_code, block_code}
-use Rattle.rv_emit.specs.Size.{stmt_length_step, stmt_length, block_length}
+use Rattle.reg_alloc.specs.declared.plan.At.TheVariants.{Reg as Register, Slot}
+use Rattle.rv_code.specs.Field.{reg, imm20}
+use Rattle.rv_code.specs.declared.instruction.Instr.{Instr}
+use Rattle.rv_code.specs.declared.instruction.Instr.TheVariants.{Auipc, Add}
+use Rattle.rv_emit.specs.Code.{register_of, from_slot, to_slot, copied, is_short, literal_by, literal, upper, operation, load_at, store_to, ahead, look_up}
 
-sum_cons : (x : ℕ) (xs : List ℕ) → sum (x ∷ xs) ≡ x + sum xs
-sum_cons x xs = grind (arith, common_steps)
+pub length-from_slot : (t : ℕ) (p : At) → length (from_slot t p) ≤ 1
+length-from_slot t (Register r) = omega arith
+length-from_slot t (Slot j) = omega arith
 
-module _ (place : ℕ → At) (far : ℕ → ℕ) where
-  abbrev Sized : FStmt → Type 0
-  Sized c = (n : ℕ) → length (stmt_code place far c n) ≡ stmt_length c
+pub length-to_slot : (p : At) → length (to_slot p) ≤ 1
+length-to_slot (Register r) = omega arith
+length-to_slot (Slot j) = omega arith
 
-  abbrev Proved : Type 0
-  Proved = (c : FStmt) × Sized c
+literal_two : (r v : ℕ) → length (literal r v) ≤ 2
+literal_two r v = by_short (is_short v)
+  where
+    by_short : (b : Bool) → length (literal_by b r v) ≤ 2
+    by_short true = omega arith
+    by_short false = omega arith
 
-  abbrev bare : FStmt-F Proved → FStmt-F FStmt
-  bare y = map-FStmt Proved FStmt (λ p. p.0) y
+pub length-copied : (p q : At) → length (copied p q) ≤ 2
+length-copied (Register r) q = omega arith
+length-copied (Slot j) (Register r) = omega arith
+length-copied (Slot j) (Slot k) = omega arith
 
-  row_sized : (cs : List Proved) (n : ℕ) → length (in_row (map (stmt_code place far) (map (λ p. p.0) cs)) n) ≡ sum (map stmt_length (map (λ p. p.0) cs))
-  row_sized [] n = refl
-  row_sized (c ∷ cs) n =
-      let here = stmt_code place far c.0 n in
-      let rest = in_row (map (stmt_code place far) (map (λ p. p.0) cs)) (n + length here) in
-      let size = length-append here rest in
-      let first = c.1 n in
-      let second = row_sized cs (n + length here) in
-      let both : length here + length rest ≡ stmt_length c.0 + sum (map stmt_length (map (λ p. p.0) cs)) = omega arith in
-      size ∙ both ∙ sym (sum_cons (stmt_length c.0) (map stmt_length (map (λ p. p.0) cs)))
+length-operation : (o : BOp) (r a b : ℕ) → length (operation o r a b) ≤ 2
+length-operation op.Add r a b = omega arith
+length-operation op.Sub r a b = omega arith
+length-operation op.Mul r a b = omega arith
+length-operation op.Mulhuu r a b = omega arith
+length-operation op.Divu r a b = omega arith
+length-operation op.Remu r a b = omega arith
+length-operation op.And r a b = omega arith
+length-operation op.Or r a b = omega arith
+length-operation op.Xor r a b = omega arith
+length-operation op.Sru r a b = omega arith
+length-operation op.Slu r a b = omega arith
+length-operation op.Srs r a b = omega arith
+length-operation op.Lts r a b = omega arith
+length-operation op.Ltu r a b = omega arith
+length-operation op.Eq r a b = omega arith
 
-  step_sized : (y : FStmt-F Proved) (n : ℕ) → length (stmt_code_step place far (map-FStmt FStmt Code (stmt_code place far) (bare y)) n) ≡ stmt_length_step (map-FStmt FStmt ℕ stmt_length (bare y))
-  step_sized (f.Lit x v) n = refl
-  step_sized (f.Copy x y) n = refl
-  step_sized (f.Bin op x y z) n = let size = length-append (operation op) (save 5 (place x) ∷ []) in omega arith
-  step_sized (f.Load size x y) n = refl
-  step_sized (f.Table size x k y) n = refl
-  step_sized (f.Store size x y) n = refl
-  step_sized (f.If x a b) n =
-      let ca = in_row (map (stmt_code place far) (map (λ p. p.0) a)) in
-      let cb = in_row (map (stmt_code place far) (map (λ p. p.0) b)) in
-      let first = row_sized a (n + 2 + 1) in
-      let second = row_sized b (n + 2 + 2 + length (ca (n + 2 + 1))) in
-      let size = length-append (ca (n + 2 + 1)) (jump (length (cb (n + 2 + 2 + length (ca (n + 2 + 1)))) + 1) ∷ cb (n + 2 + 2 + length (ca (n + 2 + 1)))) in
-      omega arith
-  step_sized (f.While a x b) n =
-      let ca = in_row (map (stmt_code place far) (map (λ p. p.0) a)) in
-      let cb = in_row (map (stmt_code place far) (map (λ p. p.0) b)) in
-      let test = n + length (ca n) + 2 in
-      let first = row_sized a n in
-      let second = row_sized b (test + 1) in
-      let inner = length-append (cb (test + 1)) (jump_back (length (ca n) + 2 + 1 + length (cb (test + 1))) ∷ []) in
-      let size = length-append (ca n) (fetch 5 (place x) ∷ skip ∷ turn (length (ca n) + 2) cb test) in
-      omega arith
+in_four : (a b c d : List Instr) → length a ≤ 1 → length b ≤ 1 → length c ≤ 2 → length d ≤ 1 → length (a ++ (b ++ (c ++ d))) ≤ 5
+in_four a b c d la lb lc ld =
+    let s1 = length-append a (b ++ (c ++ d)) in
+    let s2 = length-append b (c ++ d) in
+    let s3 = length-append c d in
+    omega arith
 
-  node_sized : (y : FStmt-F Proved) → Sized (roll-FStmt (bare y))
-  node_sized y = λ n. ap (λ c. length (c n)) (fold-roll-FStmt Code (stmt_code_step place far) (bare y)) ∙ step_sized y n ∙ sym (fold-roll-FStmt ℕ stmt_length_step (bare y))
+in_two : (a b : List Instr) (m n : ℕ) → length a ≤ m → length b ≤ n → length (a ++ b) ≤ m + n
+in_two a b m n la lb = let size = length-append a b in omega arith
 
-  pub stmt_sized : (c : FStmt) → Sized c
-  stmt_sized = ind-FStmt Sized (λ x y is. subst (λ z. Sized (roll-FStmt z)) is (node_sized y))
+pub length-literal : (p : At) (v : ℕ) → length (literal (register_of 5 p) v ++ to_slot p) ≤ 3
+length-literal p v = in_two (literal (register_of 5 p) v) (to_slot p) 2 1 (literal_two (register_of 5 p) v) (length-to_slot p)
 
-  pub block_sized : (cs : List FStmt) (n : ℕ) → length (block_code place far cs n) ≡ block_length cs
-  block_sized [] n = refl
-  block_sized (c ∷ cs) n =
-      let here = stmt_code place far c n in
-      let rest = block_code place far cs (n + length here) in
-      let size = length-append here rest in
-      let first = stmt_sized c n in
-      let second = block_sized cs (n + length here) in
-      let both : length here + length rest ≡ stmt_length c + block_length cs = omega arith in
-      size ∙ both ∙ sym (sum_cons (stmt_length c) (map stmt_length cs))
+pub length-bin : (o : BOp) (p q r : At) → length (from_slot 5 q ++ (from_slot 6 r ++ (operation o (register_of 5 p) (register_of 5 q) (register_of 6 r) ++ to_slot p))) ≤ 5
+length-bin o p q r =
+    in_four (from_slot 5 q) (from_slot 6 r) (operation o (register_of 5 p) (register_of 5 q) (register_of 6 r)) (to_slot p) (length-from_slot 5 q) (length-from_slot 6 r) (length-operation o (register_of 5 p) (register_of 5 q) (register_of 6 r)) (length-to_slot p)
+
+pub length-load : (z : Size) (p q : At) → length (from_slot 5 q ++ (load_at z (register_of 5 p) (register_of 5 q) 0 ∷ to_slot p)) ≤ 3
+length-load z p q = let last = length-to_slot p in in_two (from_slot 5 q) (load_at z (register_of 5 p) (register_of 5 q) 0 ∷ to_slot p) 1 2 (length-from_slot 5 q) (omega arith)
+
+pub length-table : (z : Size) (p q : At) (offset n : ℕ) → length (look_up z p offset q n) ≤ 6
+length-table z p q offset n =
+    let far = ahead offset (2 + length (to_slot p) + n) in
+    let last = length-to_slot p in
+    let all = in_two (from_slot 5 q) (Auipc (reg 6) (imm20 (upper far)) ∷ (Add (reg 5) (reg (register_of 5 q)) (reg 6) ∷ (load_at z (register_of 5 p) 5 far ∷ to_slot p))) 1 4 (length-from_slot 5 q) (omega arith) in
+    omega (arith, all)
+
+pub length-store : (z : Size) (p q : At) → length (from_slot 5 p ++ (from_slot 6 q ++ store_to z (register_of 5 p) (register_of 6 q) ∷ [])) ≤ 3
+length-store z p q =
+    let last = store_to z (register_of 5 p) (register_of 6 q) ∷ [] in
+    in_two (from_slot 5 p) (from_slot 6 q ++ last) 1 2 (length-from_slot 5 p) (in_two (from_slot 6 q) last 1 1 (length-from_slot 6 q) (omega arith))

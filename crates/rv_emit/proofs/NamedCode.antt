@@ -1,5 +1,5 @@
 -- The code of a statement names the operations that the statement names.
-use Rattle.std.proofs.Common.{◌≡◌, ℕ, ◌+◌, List, [], ◌∷◌, ◌++◌, length, map, refl, sym, ap, ◌∙◌, subst, append_assoc, append-nil}
+use Rattle.std.proofs.Common.{◌≡◌, ℕ, suc, ◌+◌, Bool, true, false, List, [], ◌∷◌, ◌++◌, length, map, refl, sym, ap, ◌∙◌, subst, append_assoc, append-nil}
 use Rattle.rup_base.specs.Gather.{joined}
 use Rattle.bed_syntax.specs.Named.{Name, op_names, load_names, store_names}
 use Rattle.bed_syntax.specs.declared.operation.BOp.{BOp}
@@ -11,8 +11,10 @@ use Rattle.flat_lang.specs.declared.flat.FStmt.{FStmt, FStmt-F, fold-roll-FStmt,
 use Rattle.flat_lang.specs.declared.flat.FStmt.TheOpen as f
 use Rattle.reg_alloc.specs.declared.plan.At.{At}
 use Rattle.reg_alloc.specs.declared.plan.At.TheVariants.{Reg as Register, Slot}
+use Rattle.rv_code.specs.Field.{reg, imm20}
 use Rattle.rv_code.specs.declared.instruction.Instr.{Instr}
-use Rattle.rv_emit.specs.Code.{Code, fetch, save, operation, load_at, store_to, skip, jump, jump_back, turn, in_row, stmt_code_step, stmt_code, block_code}
+use Rattle.rv_code.specs.declared.instruction.Instr.TheVariants.{Auipc, Add}
+use Rattle.rv_emit.specs.Code.{Code, register_of, fetch, save, from_slot, to_slot, copied, is_short, literal_by, literal, upper, ahead, operation, load_at, store_to, jump, jump_back, over_by, over, if_code, while_code, in_row, stmt_code_step, stmt_code, block_code, is_near}
 use Rattle.rv_emit.specs.Names.{instr_names, named_in}
 
 pub named-append : (a b : List Instr) → named_in (a ++ b) ≡ named_in a ++ named_in b
@@ -27,36 +29,71 @@ pub save_nameless : (r : ℕ) (p : At) → instr_names (save r p) ≡ []
 save_nameless r (Register q) = refl
 save_nameless r (Slot j) = refl
 
-operation_named : (o : BOp) → named_in (operation o) ≡ op_names o
-operation_named op.Add = refl
-operation_named op.Sub = refl
-operation_named op.Mul = refl
-operation_named op.Mulhuu = refl
-operation_named op.Divu = refl
-operation_named op.Remu = refl
-operation_named op.And = refl
-operation_named op.Or = refl
-operation_named op.Xor = refl
-operation_named op.Sru = refl
-operation_named op.Slu = refl
-operation_named op.Srs = refl
-operation_named op.Lts = refl
-operation_named op.Ltu = refl
-operation_named op.Eq = refl
+from_nameless : (t : ℕ) (p : At) → named_in (from_slot t p) ≡ []
+from_nameless t (Register q) = refl
+from_nameless t (Slot j) = refl
 
-load_named : (z : Size) (n : ℕ) → instr_names (load_at z n) ≡ load_names z
-load_named size.One n = refl
-load_named size.Two n = refl
-load_named size.Four n = refl
+to_nameless : (p : At) → named_in (to_slot p) ≡ []
+to_nameless (Register q) = refl
+to_nameless (Slot j) = refl
 
-store_named : (z : Size) → instr_names (store_to z) ≡ store_names z
-store_named size.One = refl
-store_named size.Two = refl
-store_named size.Four = refl
+copied_nameless : (p q : At) → named_in (copied p q) ≡ []
+copied_nameless (Register r) (Register q) = refl
+copied_nameless (Register r) (Slot j) = refl
+copied_nameless (Slot i) (Register q) = refl
+copied_nameless (Slot i) (Slot j) = refl
 
-module _ (place : ℕ → At) (far : ℕ → ℕ) where
+literal_nameless : (r v : ℕ) → named_in (literal r v) ≡ []
+literal_nameless r v = by_short (is_short v)
+  where
+    by_short : (b : Bool) → named_in (literal_by b r v) ≡ []
+    by_short true = refl
+    by_short false = refl
+
+over_nameless : (r n : ℕ) → named_in (over r n) ≡ []
+over_nameless r n = by_near (is_near n)
+  where
+    by_near : (b : Bool) → named_in (over_by b r n) ≡ []
+    by_near true = refl
+    by_near false = refl
+
+operation_named : (o : BOp) (r a b : ℕ) → named_in (operation o r a b) ≡ op_names o
+operation_named op.Add r a b = refl
+operation_named op.Sub r a b = refl
+operation_named op.Mul r a b = refl
+operation_named op.Mulhuu r a b = refl
+operation_named op.Divu r a b = refl
+operation_named op.Remu r a b = refl
+operation_named op.And r a b = refl
+operation_named op.Or r a b = refl
+operation_named op.Xor r a b = refl
+operation_named op.Sru r a b = refl
+operation_named op.Slu r a b = refl
+operation_named op.Srs r a b = refl
+operation_named op.Lts r a b = refl
+operation_named op.Ltu r a b = refl
+operation_named op.Eq r a b = refl
+
+load_named : (z : Size) (r a n : ℕ) → instr_names (load_at z r a n) ≡ load_names z
+load_named size.One r a n = refl
+load_named size.Two r a n = refl
+load_named size.Four r a n = refl
+
+store_named : (z : Size) (a r : ℕ) → instr_names (store_to z a r) ≡ store_names z
+store_named size.One a r = refl
+store_named size.Two a r = refl
+store_named size.Four a r = refl
+
+-- behind what names nothing
+after_none : (a b : List Instr) → named_in a ≡ [] → named_in (a ++ b) ≡ named_in b
+after_none a b none = named-append a b ∙ ap (λ x. x ++ named_in b) none
+
+before_none : (a b : List Instr) → named_in b ≡ [] → named_in (a ++ b) ≡ named_in a
+before_none a b none = named-append a b ∙ ap (λ x. named_in a ++ x) none ∙ append-nil (named_in a)
+
+module _ (place : ℕ → At) (offset : ℕ → ℕ) where
   abbrev Named : FStmt → Type 0
-  Named c = (n : ℕ) → named_in (stmt_code place far c n) ≡ stmt_names c
+  Named c = (n : ℕ) → named_in (stmt_code place offset c n) ≡ stmt_names c
 
   abbrev Proved : Type 0
   Proved = (c : FStmt) × Named c
@@ -64,41 +101,64 @@ module _ (place : ℕ → At) (far : ℕ → ℕ) where
   abbrev bare : FStmt-F Proved → FStmt-F FStmt
   bare y = map-FStmt Proved FStmt (λ p. p.0) y
 
-  row_named : (cs : List Proved) (n : ℕ) → named_in (in_row (map (stmt_code place far) (map (λ p. p.0) cs)) n) ≡ joined (map stmt_names (map (λ p. p.0) cs))
+  row_named : (cs : List Proved) (n : ℕ) → named_in (in_row (map (stmt_code place offset) (map (λ p. p.0) cs)) n) ≡ joined (map stmt_names (map (λ p. p.0) cs))
   row_named [] n = refl
   row_named (c ∷ cs) n =
-      let here = stmt_code place far c.0 n in
-      let rest = in_row (map (stmt_code place far) (map (λ p. p.0) cs)) (n + length here) in
-      rw (named-append here rest, c.1 n, row_named cs (n + length here)) refl
+      let rest = in_row (map (stmt_code place offset) (map (λ p. p.0) cs)) n in
+      named-append (stmt_code place offset c.0 (length rest + n)) rest ∙ ap (λ x. x ++ named_in rest) (c.1 (length rest + n)) ∙ ap (λ x. stmt_names c.0 ++ x) (row_named cs n)
 
-  step_named : (y : FStmt-F Proved) (n : ℕ) → named_in (stmt_code_step place far (map-FStmt FStmt Code (stmt_code place far) (bare y)) n) ≡ stmt_names_step (map-FStmt FStmt (List Name) stmt_names (bare y))
-  step_named (f.Lit x v) n = rw (save_nameless 5 (place x)) refl
-  step_named (f.Copy x y) n = rw (fetch_nameless 5 (place y), save_nameless 5 (place x)) refl
-  step_named (f.Bin op x y z) n = rw (fetch_nameless 5 (place y), fetch_nameless 6 (place z), named-append (operation op) (save 5 (place x) ∷ []), operation_named op, save_nameless 5 (place x)) (ap (λ x. op_names op ++ x) refl ∙ append-nil (op_names op))
-  step_named (f.Load size x y) n = rw (fetch_nameless 5 (place y), load_named size 0, save_nameless 5 (place x)) (append-nil (load_names size))
-  step_named (f.Table size x k y) n = rw (fetch_nameless 5 (place y), load_named size _, save_nameless 5 (place x)) (append-nil (load_names size))
-  step_named (f.Store size x y) n = rw (fetch_nameless 5 (place x), fetch_nameless 6 (place y), store_named size) (append-nil (store_names size))
-  step_named (f.If x a b) n =
-      let ca = in_row (map (stmt_code place far) (map (λ p. p.0) a)) in
-      let cb = in_row (map (stmt_code place far) (map (λ p. p.0) b)) in
-      let k2 = n + 2 + 2 + length (ca (n + 2 + 1)) in
-      rw (fetch_nameless 5 (place x), named-append (ca (n + 2 + 1)) (jump (length (cb k2) + 1) ∷ cb k2), row_named a (n + 2 + 1), row_named b k2) refl
-  step_named (f.While a x b) n =
-      let ca = in_row (map (stmt_code place far) (map (λ p. p.0) a)) in
-      let cb = in_row (map (stmt_code place far) (map (λ p. p.0) b)) in
-      let test = n + length (ca n) + 2 in
-      let behind : named_in (fetch 5 (place x) ∷ skip ∷ turn (length (ca n) + 2) cb test) ≡ joined (map stmt_names (map (λ p. p.0) b)) = rw (fetch_nameless 5 (place x), named-append (cb (test + 1)) (jump_back (length (ca n) + 2 + 1 + length (cb (test + 1))) ∷ []), row_named b (test + 1)) (append-nil (joined (map stmt_names (map (λ p. p.0) b)))) in
-      named-append (ca n) (fetch 5 (place x) ∷ skip ∷ turn (length (ca n) + 2) cb test) ∙ ap (λ y. y ++ named_in (fetch 5 (place x) ∷ skip ∷ turn (length (ca n) + 2) cb test)) (row_named a n) ∙ ap (λ y. joined (map stmt_names (map (λ p. p.0) a)) ++ y) behind
+  if_named : (p : At) (ca cb : Code) (na nb : List Name) → ((n : ℕ) → named_in (ca n) ≡ na) → ((n : ℕ) → named_in (cb n) ≡ nb) → (n : ℕ) → named_in (if_code p ca cb n) ≡ na ++ nb
+  if_named p ca cb na nb first second n =
+      let b = cb n in
+      let a = ca (length b + suc n) in
+      let rest = a ++ jump (length b + 1) ∷ b in
+      let test = over (register_of 5 p) (length a + 1) in
+      after_none (from_slot 5 p) (test ++ rest) (from_nameless 5 p) ∙ after_none test rest (over_nameless (register_of 5 p) (length a + 1))
+      ∙ named-append a (jump (length b + 1) ∷ b) ∙ ap (λ x. x ++ named_in b) (first (length b + suc n)) ∙ ap (λ x. na ++ x) (second n)
+
+  while_named : (p : At) (ca cb : Code) (na nb : List Name) → ((n : ℕ) → named_in (ca n) ≡ na) → ((n : ℕ) → named_in (cb n) ≡ nb) → (n : ℕ) → named_in (while_code ca p cb n) ≡ na ++ nb
+  while_named p ca cb na nb first second n =
+      let body = cb (suc n) in
+      let test = over (register_of 5 p) (length body + 1) in
+      let turn = from_slot 5 p ++ (test ++ body) in
+      let start = ca (length turn + suc n) in
+      let back = jump_back (length start + length turn) in
+      let turn_named : named_in turn ≡ nb = after_none (from_slot 5 p) (test ++ body) (from_nameless 5 p) ∙ after_none test body (over_nameless (register_of 5 p) (length body + 1)) ∙ second (suc n) in
+      named-append start (turn ++ back ∷ []) ∙ ap (λ x. x ++ named_in (turn ++ back ∷ [])) (first (length turn + suc n)) ∙ ap (λ x. na ++ x) (before_none turn (back ∷ []) refl ∙ turn_named)
+
+  step_named : (y : FStmt-F Proved) (n : ℕ) → named_in (stmt_code_step place offset (map-FStmt FStmt Code (stmt_code place offset) (bare y)) n) ≡ stmt_names_step (map-FStmt FStmt (List Name) stmt_names (bare y))
+  step_named (f.Lit x v) n = before_none (literal (register_of 5 (place x)) v) (to_slot (place x)) (to_nameless (place x)) ∙ literal_nameless (register_of 5 (place x)) v
+  step_named (f.Copy x y) n = copied_nameless (place x) (place y)
+  step_named (f.Bin o x y z) n =
+      let does = operation o (register_of 5 (place x)) (register_of 5 (place y)) (register_of 6 (place z)) in
+      let last = to_slot (place x) in
+      after_none (from_slot 5 (place y)) (from_slot 6 (place z) ++ (does ++ last)) (from_nameless 5 (place y)) ∙ after_none (from_slot 6 (place z)) (does ++ last) (from_nameless 6 (place z))
+      ∙ before_none does last (to_nameless (place x)) ∙ operation_named o (register_of 5 (place x)) (register_of 5 (place y)) (register_of 6 (place z))
+  step_named (f.Load size x y) n =
+      let does = load_at size (register_of 5 (place x)) (register_of 5 (place y)) 0 in
+      let last = to_slot (place x) in
+      after_none (from_slot 5 (place y)) (does ∷ last) (from_nameless 5 (place y)) ∙ ap (λ z. instr_names does ++ z) (to_nameless (place x)) ∙ append-nil (instr_names does) ∙ load_named size (register_of 5 (place x)) (register_of 5 (place y)) 0
+  step_named (f.Table size x k y) n =
+      let far = ahead (offset k) (2 + length (to_slot (place x)) + n) in
+      let does = load_at size (register_of 5 (place x)) 5 far in
+      let last = to_slot (place x) in
+      after_none (from_slot 5 (place y)) (Auipc (reg 6) (imm20 (upper far)) ∷ (Add (reg 5) (reg (register_of 5 (place y))) (reg 6) ∷ (does ∷ last))) (from_nameless 5 (place y))
+      ∙ ap (λ z. instr_names does ++ z) (to_nameless (place x)) ∙ append-nil (instr_names does) ∙ load_named size (register_of 5 (place x)) 5 far
+  step_named (f.Store size x y) n =
+      let does = store_to size (register_of 5 (place x)) (register_of 6 (place y)) in
+      after_none (from_slot 5 (place x)) (from_slot 6 (place y) ++ does ∷ []) (from_nameless 5 (place x)) ∙ after_none (from_slot 6 (place y)) (does ∷ []) (from_nameless 6 (place y))
+      ∙ append-nil (instr_names does) ∙ store_named size (register_of 5 (place x)) (register_of 6 (place y))
+  step_named (f.If x a b) n = if_named (place x) (in_row (map (stmt_code place offset) (map (λ p. p.0) a))) (in_row (map (stmt_code place offset) (map (λ p. p.0) b))) (joined (map stmt_names (map (λ p. p.0) a))) (joined (map stmt_names (map (λ p. p.0) b))) (row_named a) (row_named b) n
+  step_named (f.While a x b) n = while_named (place x) (in_row (map (stmt_code place offset) (map (λ p. p.0) a))) (in_row (map (stmt_code place offset) (map (λ p. p.0) b))) (joined (map stmt_names (map (λ p. p.0) a))) (joined (map stmt_names (map (λ p. p.0) b))) (row_named a) (row_named b) n
 
   node_named : (y : FStmt-F Proved) → Named (roll-FStmt (bare y))
-  node_named y = λ n. ap (λ c. named_in (c n)) (fold-roll-FStmt Code (stmt_code_step place far) (bare y)) ∙ step_named y n ∙ sym (fold-roll-FStmt (List Name) stmt_names_step (bare y))
+  node_named y = λ n. ap (λ c. named_in (c n)) (fold-roll-FStmt Code (stmt_code_step place offset) (bare y)) ∙ step_named y n ∙ sym (fold-roll-FStmt (List Name) stmt_names_step (bare y))
 
   stmt_named : (c : FStmt) → Named c
   stmt_named = ind-FStmt Named (λ x y is. subst (λ z. Named (roll-FStmt z)) is (node_named y))
 
-  pub block_named : (cs : List FStmt) (n : ℕ) → named_in (block_code place far cs n) ≡ code_names cs
+  pub block_named : (cs : List FStmt) (n : ℕ) → named_in (block_code place offset cs n) ≡ code_names cs
   block_named [] n = refl
   block_named (c ∷ cs) n =
-      let here = stmt_code place far c n in
-      let rest = block_code place far cs (n + length here) in
-      rw (named-append here rest, stmt_named c n, block_named cs (n + length here)) refl
+      let rest = block_code place offset cs n in
+      named-append (stmt_code place offset c (length rest + n)) rest ∙ ap (λ x. x ++ named_in rest) (stmt_named c (length rest + n)) ∙ ap (λ x. stmt_names c ++ x) (block_named cs n)

@@ -1,5 +1,5 @@
 -- Code that stands for a call, as a site; and the ready state, as one at which the code is entered.
-use Rattle.std.proofs.Common.{Bool, true, ◌≡◌, ℕ, zero, suc, ◌+◌, ◌-◌, ◌*◌, ◌^◌, ◌<◌, ◌≤◌, inl, inr, false, List, [], ◌∷◌, map, length, Option, Some, None, IsSome, slice_get, refl, ap, ◌∙◌, subst, arith, length-append, is_some, ◌≢◌}
+use Rattle.std.proofs.Common.{◌≡◌, ℕ, zero, suc, ◌+◌, ◌-◌, ◌*◌, ◌^◌, ◌<◌, ◌≤◌, inl, inr, false, List, [], ◌∷◌, map, length, Option, Some, None, IsSome, slice_get, refl, ap, ◌∙◌, subst, arith, length-append, is_some, ◌≢◌}
 use Rattle.std.specs.Prelude.{option_map}
 use Rattle.std.specs.List.{AllByRecursion, flat_map}
 use Rattle.std.specs.Int.{w32, to_le_bytes}
@@ -8,81 +8,59 @@ use Rattle.std.specs.Ordering.{nat_cmp}
 use Rattle.std.proofs.lemmas.Option.{slice_get-map, slice_get_within}
 use Rattle.std.proofs.lemmas.List.{length-map}
 use Rattle.flat_lang.specs.declared.flat.Flat.{Flat}
-use Rattle.reg_alloc.specs.declared.plan.At.{At}
-use Rattle.reg_alloc.specs.declared.plan.At.TheVariants.{Reg as Register, Slot}
 use Rattle.flat_lang.specs.State.{Vars}
 use Rattle.rv_code.specs.declared.instruction.Instr.{Instr}
 use Rattle.rv_code.specs.Word.{word_of}
 use Rattle.rv_machine.specs.State.{State, register, number_at}
 use Rattle.rv_memory.specs.Ranges.{Bytes, Range, Within, Apart, Stands}
 use Rattle.rv_machine.proofs.laws.Registers.{length-with_register, register-with_register_other, register-with_register_same}
-use Rattle.rv_emit.specs.Whole.{Placement, behind, stack_of, table_far, code_with}
+use Rattle.reg_alloc.specs.declared.plan.Plan.{Plan}
+use Rattle.rv_emit.specs.Whole.{uses, slots_in, saved_in, stack_of, offset_in, code_of}
+use Rattle.rv_emit.proofs.Plans.{IsPlacement}
 use Rattle.rv_memory.proofs.laws.Numbers.{number_at_agree}
 use Rattle.rv_emit.specs.Tables.{text_of}
 use Rattle.rv_emit.specs.Ready.{stack_range, Ready, InOne, IsPart, arguments}
 use Rattle.rv_emit.proofs.Standing.{stands_front, stands_back, words_stand, length-word_bytes}
 use Rattle.rv_emit.proofs.TableText.{text_at}
 use Rattle.rv_emit.proofs.WordSmall.{word_small}
-use Rattle.rv_emit.proofs.Site.{IsValid, Site, InImage, InFrame, TableAt, Sound, Memory, Before}
+use Rattle.rv_emit.proofs.Site.{Site, InImage, InFrame, TableAt, Sound, Memory, Before}
 use Rattle.rv_emit.proofs.Runs.{set_reg}
 
--- the places serve the code's variables; `held` are the registers that are places
-pub record IsPlacement (f : Flat) (p : Placement) (held : ℕ → Bool) : Type 0 where
-  pub few : behind p.saved p.slots ≤ 450
-  pub slots : (x j : ℕ) → x < f.vars → p.place x ≡ Slot j → j < p.slots
-  pub registers : (x r : ℕ) → x < f.vars → p.place x ≡ Register r → held r ≡ true
-  pub distinct : (x y : ℕ) → x < f.vars → y < f.vars → p.place x ≡ p.place y → x ≡ y
-  pub from : (r : ℕ) → held r ≡ true → 8 ≤ r
-  pub to : (r : ℕ) → held r ≡ true → r < 32
-  pub not_argument : (r : ℕ) → held r ≡ true → 10 ≤ r → 18 ≤ r
-  pub kept : (r : ℕ) → held r ≡ true → r < 28 → (i : ℕ) × (slice_get p.saved i ≡ Some r)
-  pub saved_from : (i r : ℕ) → slice_get p.saved i ≡ Some r → 8 ≤ r
-  pub saved_to : (i r : ℕ) → slice_get p.saved i ≡ Some r → r < 32
-  pub saved_not_argument : (i r : ℕ) → slice_get p.saved i ≡ Some r → 10 ≤ r → 18 ≤ r
-
 -- the emitted code fits its three-address code, and this is no longer than a jump reaches
-pub record Emits (f : Flat) (p : Placement) (code : List Instr) (text : List ℕ) (stack : ℕ) : Type 0 where
-  pub code_is : code ≡ code_with p f (length code)
+pub record Emits (f : Flat) (plan : Plan) (code : List Instr) (text : List ℕ) (stack : ℕ) : Type 0 where
+  pub code_is : code ≡ code_of f plan
   pub text_is : text ≡ text_of f.tables
-  pub stack_is : stack ≡ stack_of p
+  pub stack_is : stack ≡ stack_of plan.places
   pub short : length code < 260000
 
-pub behind_is : (rs : List ℕ) (n : ℕ) → behind rs n ≡ n + length rs
-behind_is [] n = omega arith
-behind_is (r ∷ rs) n = let rest = behind_is rs (n + 1) in rest ∙ omega arith
-
--- the site of the code while registers are saved: its variables are those registers
-abbrev pub saving_site : Flat → Placement → List Instr → List ℕ → ℕ → ℕ → Site
-saving_site f p code text start base =
+-- the site of the code while registers are saved: in its slots, behind those of the variables
+abbrev pub saving_site : Flat → Plan → List Instr → List ℕ → ℕ → ℕ → Site
+saving_site f plan code text start base =
     record {
       start = start;
       code = code;
       text = text;
       tables = f.tables;
       base = base;
-      slots = behind p.saved p.slots;
-      words = behind p.saved p.slots;
-      vars = length p.saved;
-      place = λ i. Slot (p.slots + i);
-      far = table_far f (length code);
+      slots = slots_in plan.places + length (saved_in plan.places);
+      words = slots_in plan.places + length (saved_in plan.places);
+      offset = offset_in f;
       held = λ r. false;
     }
 
 -- the site of the code from then on
-abbrev pub site : Flat → Placement → (ℕ → Bool) → List Instr → List ℕ → ℕ → ℕ → Site
-site f p held code text start base =
+abbrev pub site : Flat → Plan → List Instr → List ℕ → ℕ → ℕ → Site
+site f plan code text start base =
     record {
       start = start;
       code = code;
       text = text;
       tables = f.tables;
       base = base;
-      slots = p.slots;
-      words = behind p.saved p.slots;
-      vars = f.vars;
-      place = p.place;
-      far = table_far f (length code);
-      held = held;
+      slots = slots_in plan.places;
+      words = slots_in plan.places + length (saved_in plan.places);
+      offset = offset_in f;
+      held = uses plan.places;
     }
 
 some_word : (code : List Instr) (k : ℕ) (i : Instr) → slice_get code k ≡ Some i → slice_get (map word_of code) k ≡ Some (word_of i)
@@ -93,15 +71,15 @@ apart_from r [] a apart one within = absurd one
 apart_from r (q ∷ rs) a apart (inl here) within = apart.0 a within here
 apart_from r (q ∷ rs) a apart (inr there) within = apart_from r rs a apart.1 there within
 
-module _ (f : Flat) (p : Placement) (held : ℕ → Bool) (placement : IsPlacement f p held) (code : List Instr) (text : List ℕ) (stack : ℕ) (emits : Emits f p code text stack) (image : Range) (start : ℕ) (arrays : List Range) (s : State) (ready : Ready (map word_of code) text stack image start arrays s) where
+module _ (f : Flat) (plan : Plan) (placement : IsPlacement f plan) (code : List Instr) (text : List ℕ) (stack : ℕ) (emits : Emits f plan code text stack) (image : Range) (start : ℕ) (arrays : List Range) (s : State) (ready : Ready (map word_of code) text stack image start arrays s) where
   abbrev pub base : ℕ
   base = register s.regs 2 - stack
 
   abbrev pub before_saving : Site
-  before_saving = saving_site f p code text start base
+  before_saving = saving_site f plan code text start base
 
   abbrev pub here : Site
-  here = site f p held code text start base
+  here = site f plan code text start base
 
   -- the state once the frame is taken
   abbrev pub taken : State
@@ -135,18 +113,17 @@ module _ (f : Flat) (p : Placement) (held : ℕ → Bool) (placement : IsPlaceme
       let place : start + length (flat_map (to_le_bytes w32) (map word_of code)) ≡ start + 4 * length code = omega arith in
       subst (λ a. Stands s.mem a text) place (stands_back s.mem start (flat_map (to_le_bytes w32) (map word_of code)) text ready.code_stands)
 
-  table_at : (k : ℕ) (bytes : List ℕ) → slice_get f.tables k ≡ Some bytes → TableAt before_saving taken (table_far f (length code) k) bytes
+  table_at : (k : ℕ) (bytes : List ℕ) → slice_get f.tables k ≡ Some bytes → TableAt before_saving taken (offset_in f k) bytes
   table_at k bytes found =
       let t = text_at f.tables bytes 0 k found in
       let is = t.is in
       let aligned = t.aligned in
-      let far : table_far f (length code) k ≡ 4 * length code + t.offset = omega arith in
+      let same : offset_in f k ≡ t.offset = omega arith in
       record {
         aligned = omega arith;
-        behind = omega arith;
         inside = λ a b at. let within = slice_get_within text (t.offset + a) b (in_text t.offset a b (t.there a b at)) in omega arith;
         stands = λ a b at.
-            let place : start + 4 * length code + (t.offset + a) ≡ start + table_far f (length code) k + a = omega arith in
+            let place : start + 4 * length code + (t.offset + a) ≡ start + (4 * length code + offset_in f k) + a = omega arith in
             subst (λ q. get s.mem q ≡ Some b) place (text_stands (t.offset + a) b (in_text t.offset a b (t.there a b at)));
       }
     where
@@ -161,7 +138,6 @@ module _ (f : Flat) (p : Placement) (held : ℕ → Bool) (placement : IsPlaceme
       let fits = ready.stack_fits in
       let above = ready.stack_aligned in
       let image_ends = ready.mapped.0.ends in
-      let count = behind_is p.saved p.slots in
       record {
         aligned = ready.aligned;
         ends = omega (arith, image_size);
@@ -177,8 +153,6 @@ module _ (f : Flat) (p : Placement) (held : ℕ → Bool) (placement : IsPlaceme
         from = λ r held. absurd (cc);
         to = λ r held. absurd (cc);
         not_argument = λ r held. absurd (cc);
-        valid = λ x below. omega arith;
-        distinct = λ x y xs ys same. let e : p.slots + x ≡ p.slots + y = cc in omega arith;
       }
 
   saving_memory : Memory before_saving taken nothing s.mem
@@ -230,21 +204,18 @@ module _ (f : Flat) (p : Placement) (held : ℕ → Bool) (placement : IsPlaceme
     off_stack : (a : ℕ) → InImage here a → InFrame here a → ⊥
     off_stack a inside frame = ready.apart.0.0 a (in_image a inside) (in_stack a frame)
 
-    table_still : (far : ℕ) (bytes : List ℕ) → TableAt before_saving taken far bytes → TableAt here m far bytes
-    table_still far bytes t =
+    table_still : (offset : ℕ) (bytes : List ℕ) → TableAt before_saving taken offset bytes → TableAt here m offset bytes
+    table_still offset bytes t =
         record {
           aligned = t.aligned;
-          behind = t.behind;
           inside = t.inside;
           stands = λ a b at.
-              let behind = t.behind in
               let inside = t.inside a b at in
-              unchanged (start + far + a) (λ frame. off_stack (start + far + a) (omega arith, omega arith) frame) ∙ t.stands a b at;
+              unchanged (start + (4 * length code + offset) + a) (λ frame. off_stack (start + (4 * length code + offset) + a) (omega arith, omega arith) frame) ∙ t.stands a b at;
         }
 
     pub sound : Sound here m
     sound =
-        let count = behind_is p.saved p.slots in
         record {
           aligned = saving_sound.aligned;
           ends = saving_sound.ends;
@@ -255,18 +226,12 @@ module _ (f : Flat) (p : Placement) (held : ℕ → Bool) (placement : IsPlaceme
           fit = omega arith;
           apart = off_stack;
           stands = λ j i found. let below = slice_get_within code j i found in number_at_agree 4 s.mem m.mem (start + 4 * j) (λ a low high. unchanged a (λ frame. off_stack a (omega arith, omega arith) frame)) ∙ code_at j i found;
-          table = λ j bytes found. table_still (table_far f (length code) j) bytes (table_at j bytes found);
+          table = λ j bytes found. table_still (offset_in f j) bytes (table_at j bytes found);
           mapped = λ a frame. saved.memory.stay a (saving_sound.mapped a frame);
           from = placement.from;
           to = placement.to;
           not_argument = placement.not_argument;
-          valid = λ x below. valid_at x below (p.place x) refl;
-          distinct = placement.distinct;
         }
-      where
-        valid_at : (x : ℕ) → x < f.vars → (q : At) → p.place x ≡ q → IsValid here q
-        valid_at x below (Slot j) is = placement.slots x j below is
-        valid_at x below (Register r) is = placement.registers x r below is
 
     pub first_memory : (mem : Bytes) → IsPart arrays mem s.mem → Memory here m mem m.mem
     first_memory mem part =
@@ -283,7 +248,7 @@ module _ (f : Flat) (p : Placement) (held : ℕ → Bool) (placement : IsPlaceme
         off_array : (a : ℕ) → IsSome (get mem a) → InFrame here a → ⊥
         off_array a there frame = apart_from (stack_range stack s) arrays a ready.apart.1.0 (one_of mem a part there) (in_stack a frame)
 
-    pub begins : (mem : Bytes) → IsPart arrays mem s.mem → Before here m mem (arguments m.regs 0) k m
+    pub begins : (mem : Bytes) → IsPart arrays mem s.mem → Before here m mem nothing k m
     begins mem part =
         record {
           pc = saved.pc;
@@ -294,7 +259,7 @@ module _ (f : Flat) (p : Placement) (held : ℕ → Bool) (placement : IsPlaceme
           memory = first_memory mem part;
         }
       where
-        none_set : (x v : ℕ) → get (arguments m.regs 0) x ≡ Some v → ⊥
+        none_set : (x v : ℕ) → get nothing x ≡ Some v → ⊥
         none_set x v found = let none = get-empty {K = ℕ} {X = ℕ} nat_cmp x in absurd (cc)
 
     -- a register that is no temporary and not sp still holds what it held at the call

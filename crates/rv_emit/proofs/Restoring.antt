@@ -30,8 +30,8 @@ pub record AreKept (rs : List ℕ) : Type 0 where
   pub to : (i r : ℕ) → slice_get rs i ≡ Some r → r < 32
 
 -- the words of the frame from a first one on hold what registers held in m
-abbrev pub Keeps : Site → State → State → ℕ → ℕ → List ℕ → Type 0
-Keeps l m e first j rs = (i r : ℕ) → slice_get rs i ≡ Some r → number_at e.mem 4 (l.base + 4 * (first + j + i)) ≡ Some (register m.regs r)
+abbrev pub Keeps : Site → State → State → ℕ → List ℕ → Type 0
+Keeps l m e first rs = (i r : ℕ) → slice_get rs i ≡ Some r → number_at e.mem 4 (l.base + 4 * (first + i)) ≡ Some (register m.regs r)
 
 module _ (l : Site) (m : State) (sound : Sound l m) (mem : Bytes) (e : State) (memory : Memory l m mem e.mem) (m0 : State) where
   pub stood_ending : (k : ℕ) (s : State) → Ending l e k s → Stood l m sound mem k s
@@ -45,29 +45,29 @@ module _ (l : Site) (m : State) (sound : Sound l m) (mem : Bytes) (e : State) (m
     pub got : (i r : ℕ) → slice_get rs i ≡ Some r → register u.regs r ≡ register m0.regs r
     pub others : (q : ℕ) → ((i : ℕ) → slice_get rs i ≡ Some q → ⊥) → register u.regs q ≡ register s.regs q
 
-  pub restores_lead : (rs : List ℕ) (first j k : ℕ) (s : State) → AreKept rs → first + j + length rs ≤ l.words → Keeps l m0 e first j rs → Ending l e k s → HasAll l.code k (restores first j rs) → (u : State) × Back rs (k + length rs) s u
-  restores_lead [] first j k s are few keeps ending has =
+  pub restores_lead : (rs : List ℕ) (first k : ℕ) (s : State) → AreKept rs → first + length rs ≤ l.words → Keeps l m0 e first rs → Ending l e k s → HasAll l.code k (restores first rs) → (u : State) × Back rs (k + length rs) s u
+  restores_lead [] first k s are few keeps ending has =
       let none : k ≡ k + 0 = omega arith in
       (s, record { run = stays (InCode l) s; ending = subst (λ n. Ending l e n s) none ending; right = λ q same. same; got = λ i r found. absurd (cc); others = λ q out. refl })
-  restores_lead (r ∷ rs) first j k s are few keeps ending has =
+  restores_lead (r ∷ rs) first k s are few keeps ending has =
       let value = register m0.regs r in
       let from = are.from 0 r refl in
       let to = are.to 0 r refl in
       let same : r % 32 ≡ r = omega arith in
-      let none : first + j + 0 ≡ first + j = omega arith in
-      let there : number_at s.mem 4 (l.base + 4 * (first + j)) ≡ Some value = ap (λ b. number_at b 4 (l.base + 4 * (first + j))) ending.mem ∙ subst (λ n. number_at e.mem 4 (l.base + 4 * n) ≡ Some value) none (keeps 0 r refl) in
-      let address : plus (register s.regs 2) (extended 2048 (4 * (first + j) % 4096)) ≡ l.base + 4 * (first + j) = rw ending.sp (slot_offset l.base (first + j) (omega (arith, sound.few)) (omega (arith, sound.frame_ends))) in
-      let does : effect (fetch r (Slot (first + j))) s ≡ gives s r value = rw same (loads_is s r 4 _ (l.base + 4 * (first + j)) value address (omega (arith, sound.base_aligned)) there) in
+      let none : first + 0 ≡ first = omega arith in
+      let there : number_at s.mem 4 (l.base + 4 * first) ≡ Some value = ap (λ b. number_at b 4 (l.base + 4 * first)) ending.mem ∙ subst (λ n. number_at e.mem 4 (l.base + 4 * n) ≡ Some value) none (keeps 0 r refl) in
+      let address : plus (register s.regs 2) (extended 2048 (4 * first % 4096)) ≡ l.base + 4 * first = rw ending.sp (slot_offset l.base first (omega (arith, sound.few)) (omega (arith, sound.frame_ends))) in
+      let does : effect (fetch r (Slot first)) s ≡ gives s r value = rw same (loads_is s r 4 _ (l.base + 4 * first) value address (omega (arith, sound.base_aligned)) there) in
       let t : State = set_reg s r value in
       let next = has.0.next in
-      let run = leads_stood l m sound mem 0 k (fetch r (Slot (first + j))) s s t (stays (InCode l) s) (stood_ending k s ending) (record { stands = has.0.stands; inside = omega arith }) (does ∙ gives_is s r value) in
+      let run = leads_stood l m sound mem 0 k (fetch r (Slot first)) s s t (stays (InCode l) s) (stood_ending k s ending) (record { stands = has.0.stands; inside = omega arith }) (does ∙ gives_is s r value) in
       let then : Ending l e (k + 1) t = record {
         pc = omega (arith, ending.pc, sound.ends);
         count = length-with_register s.regs r value ∙ ending.count;
         mem = ending.mem;
         sp = register-with_register_other s.regs r value 2 (λ q. omega arith) ∙ ending.sp;
       } in
-      let rest = restores_lead rs first (j + 1) (k + 1) t (record { from = λ i q found. are.from (suc i) q found; to = λ i q found. are.to (suc i) q found }) (omega arith) (λ i q found. let place : first + j + suc i ≡ first + (j + 1) + i = omega arith in subst (λ n. number_at e.mem 4 (l.base + 4 * n) ≡ Some (register m0.regs q)) place (keeps (suc i) q found)) then has.1 in
+      let rest = restores_lead rs (first + 1) (k + 1) t (record { from = λ i q found. are.from (suc i) q found; to = λ i q found. are.to (suc i) q found }) (omega arith) (λ i q found. let place : first + suc i ≡ first + 1 + i = omega arith in subst (λ n. number_at e.mem 4 (l.base + 4 * n) ≡ Some (register m0.regs q)) place (keeps (suc i) q found)) then has.1 in
       let place : k + 1 + length rs ≡ k + suc (length rs) = omega arith in
       let steps : 1 + length rs ≡ suc (length rs) = omega arith in
       let here : register t.regs r ≡ value = register-with_register_same s.regs r value (omega arith) (omega (arith, ending.count)) in (

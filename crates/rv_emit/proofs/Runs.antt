@@ -1,10 +1,12 @@
 -- How instructions run, one after another, from a state that stands before them.
-use Rattle.std.proofs.Common.{◌≡◌, ◌≢◌, ℕ, zero, suc, ◌+◌, ◌*◌, ◌%◌, ◌<◌, ◌≤◌, List, [], ◌∷◌, ◌++◌, length, Option, Some, None, Result, Ok, Err, true, slice_get, refl, ap, ◌∙◌, subst, arith}
+use Rattle.std.proofs.Common.{◌≡◌, ◌≢◌, ℕ, zero, suc, ◌+◌, ◌*◌, ◌%◌, ◌<◌, ◌≤◌, List, [], ◌∷◌, ◌++◌, length, Option, Some, None, Result, Ok, Err, slice_get, refl, ap, ◌∙◌, subst, arith}
 use Rattle.std.specs.FinMap.{get}
+use Rattle.bed_meaning.specs.State.{spend}
+use Rattle.bed_meaning.specs.Fuelled.{and_then, given, take_one, fuelled}
 use Rattle.bed_meaning.specs.declared.halt.Halt.{Halt}
-use Rattle.flat_lang.specs.State.{Vars, spend, with_var}
+use Rattle.flat_lang.specs.State.{Vars, with_var}
 use Rattle.flat_lang.specs.State as flat
-use Rattle.flat_lang.specs.Meaning.{Rule, and_then, given, take_one, fuelled}
+use Rattle.flat_lang.specs.Meaning.{Rule}
 use Rattle.reg_alloc.specs.declared.plan.At.{At}
 use Rattle.reg_alloc.specs.declared.plan.At.TheVariants.{Reg as Register, Slot}
 use Rattle.rv_code.specs.declared.instruction.Instr.{Instr}
@@ -19,6 +21,7 @@ use Rattle.rv_machine.proofs.laws.Registers.{length-with_register, register-with
 use Rattle.rv_machine.proofs.laws.Rows.{step_by}
 use Rattle.rv_machine.proofs.laws.Runs.{Leads, stays, leads_on, leads_then}
 use Rattle.rv_machine.proofs.laws.Table.{row_of}
+use Rattle.rv_emit.specs.Code.{place_of}
 use Rattle.rv_emit.proofs.Site.{Site, InImage, InCode, Sound, Memory, Holds, IsValid, Before}
 
 -- an instruction stands in the code, and another behind it
@@ -91,10 +94,9 @@ module _ (l : Site) (m : State) (sound : Sound l m) where
   next_pc mem vars k i s before has = let next = has.next in omega (arith, before.pc, sound.ends)
 
   -- a temporary register is set
-  holds_set : (s : State) (d v x w : ℕ) (p : At) → 5 ≤ d → d ≤ 7 → x < l.vars → l.place x ≡ p → Holds l s p w → Holds l (set_reg s d v) p w
-  holds_set s d v x w (Slot j) low high below is there = there
-  holds_set s d v x w (Register r) low high below is there =
-      let valid : l.held r ≡ true = subst (λ p. IsValid l p) is (sound.valid x below) in
+  holds_set : (s : State) (d v w : ℕ) (p : At) → 5 ≤ d → d ≤ 7 → IsValid l p → Holds l s p w → Holds l (set_reg s d v) p w
+  holds_set s d v w (Slot j) low high valid there = there
+  holds_set s d v w (Register r) low high valid there =
       register-with_register_other s.regs d v r (λ e. omega (arith, sound.from r valid)) ∙ there
 
   pub before_set : (mem : Bytes) (vars : Vars) (k : ℕ) (i : Instr) (s : State) (d v : ℕ) → 5 ≤ d → d ≤ 7 → Before l m mem vars k s → Has l.code k i → Before l m mem vars (k + 1) (set_reg s d v)
@@ -104,7 +106,7 @@ module _ (l : Site) (m : State) (sound : Sound l m) where
         count = length-with_register s.regs d v ∙ before.count;
         sp = register-with_register_other s.regs d v 2 (λ e. omega arith) ∙ before.sp;
         kept = λ r free. register-with_register_other s.regs d v r (λ e. omega (arith, free.not_temporary)) ∙ before.kept r free;
-        held = λ x w found. let h = before.held x w found in record { below = h.below; word = h.word; there = holds_set s d v x w (l.place x) low high h.below refl h.there };
+        held = λ x w found. let h = before.held x w found in record { valid = h.valid; word = h.word; there = holds_set s d v w (place_of x) low high h.valid h.there };
         memory = before.memory;
       }
 
@@ -116,6 +118,9 @@ module _ (l : Site) (m : State) (sound : Sound l m) where
   -- the run is where it should be
   pub ends_at : (t k : ℕ) (s : State) (f : flat.State) → t ≤ f.ticks → Before l m f.mem f.vars k s → Reaches t k s (Ok f)
   ends_at t k s f in_time before = (0, s, omega arith, stays (InCode l) s, before)
+
+  pub at_place : (t k k2 : ℕ) (s : State) (r : Result flat.State Halt) → k ≡ k2 → Reaches t k s r → Reaches t k2 s r
+  at_place t k k2 s r same reach = subst (λ n. Reaches t n s r) same reach
 
   -- a later end
   pub later : (t t1 k : ℕ) (s : State) (r : Result flat.State Halt) → t ≤ t1 → Reaches t1 k s r → Reaches t k s r

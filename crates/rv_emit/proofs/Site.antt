@@ -1,5 +1,6 @@
 -- Where code stands, and what holds of the machine while the code runs.
-use Rattle.std.proofs.Common.{◌≡◌, ◌≢◌, ℕ, ◌+◌, ◌*◌, ◌%◌, ◌^◌, ◌<◌, ◌≤◌, Bool, true, false, List, length, Some, None, IsSome, slice_get}
+use Rattle.std.proofs.Common.{◌≡◌, ◌≢◌, ℕ, ◌+◌, ◌-◌, ◌*◌, ◌%◌, ◌^◌, ◌<◌, ◌≤◌, Bool, true, false, nat_lt, List, length, Some, None, IsSome, slice_get, refl, arith, if◌then◌else◌}
+use Rattle.std.proofs.lemmas.Bool.{ltb-false}
 use Rattle.std.specs.FinMap.{get}
 use Rattle.flat_lang.specs.State.{Vars}
 use Rattle.reg_alloc.specs.declared.plan.At.{At}
@@ -8,10 +9,11 @@ use Rattle.rv_code.specs.declared.instruction.Instr.{Instr}
 use Rattle.rv_code.specs.Word.{word_of}
 use Rattle.rv_machine.specs.State.{State, register, number_at}
 use Rattle.rv_memory.specs.Ranges.{Bytes}
+use Rattle.rv_emit.specs.Code.{place_of, register_of}
 
--- the code begins at `start`, and the text of its tables lies behind it; the frame's `words` begin at `base`, and the
--- first `slots` of them hold variables; each of the variables below `vars` has its place, each table its distance from
--- the start; `held` are the registers that are places
+-- The variables are numbers of places. The code begins at `start`, and the text of its tables lies behind it, each table at its
+-- offset; the frame's `words` begin at `base`, and the first `slots` of them hold variables; `held` are the registers that are
+-- places.
 pub record Site : Type 0 where
   pub start : ℕ
   pub code : List Instr
@@ -20,9 +22,7 @@ pub record Site : Type 0 where
   pub base : ℕ
   pub slots : ℕ
   pub words : ℕ
-  pub vars : ℕ
-  pub place : ℕ → At
-  pub far : ℕ → ℕ
+  pub offset : ℕ → ℕ
   pub held : ℕ → Bool
 
 abbrev pub InImage : Site → ℕ → Type 0
@@ -41,12 +41,11 @@ abbrev pub IsValid : Site → At → Type 0
 IsValid l (Slot j) = j < l.slots
 IsValid l (Register r) = l.held r ≡ true
 
--- a table stands at a distance from the start, within the image
-pub record TableAt (l : Site) (m : State) (far : ℕ) (bytes : List ℕ) : Type 0 where
-  pub aligned : far % 4 ≡ 0
-  pub behind : 4 * length l.code ≤ far
-  pub inside : (a b : ℕ) → slice_get bytes a ≡ Some b → far + a < 4 * length l.code + length l.text
-  pub stands : (a b : ℕ) → slice_get bytes a ≡ Some b → get m.mem (l.start + far + a) ≡ Some b
+-- a table stands at an offset in the text of the tables
+pub record TableAt (l : Site) (m : State) (offset : ℕ) (bytes : List ℕ) : Type 0 where
+  pub aligned : offset % 4 ≡ 0
+  pub inside : (a b : ℕ) → slice_get bytes a ≡ Some b → offset + a < length l.text
+  pub stands : (a b : ℕ) → slice_get bytes a ≡ Some b → get m.mem (l.start + (4 * length l.code + offset) + a) ≡ Some b
 
 -- what is so at the entry m, and never changes
 pub record Sound (l : Site) (m : State) : Type 0 where
@@ -59,13 +58,11 @@ pub record Sound (l : Site) (m : State) : Type 0 where
   pub fit : l.slots ≤ l.words
   pub apart : (a : ℕ) → InImage l a → InFrame l a → ⊥
   pub stands : (k : ℕ) (i : Instr) → slice_get l.code k ≡ Some i → number_at m.mem 4 (l.start + 4 * k) ≡ Some (word_of i)
-  pub table : (k : ℕ) (bytes : List ℕ) → slice_get l.tables k ≡ Some bytes → TableAt l m (l.far k) bytes
+  pub table : (k : ℕ) (bytes : List ℕ) → slice_get l.tables k ≡ Some bytes → TableAt l m (l.offset k) bytes
   pub mapped : (a : ℕ) → InFrame l a → IsSome (get m.mem a)
   pub from : (r : ℕ) → l.held r ≡ true → 8 ≤ r
   pub to : (r : ℕ) → l.held r ≡ true → r < 32
   pub not_argument : (r : ℕ) → l.held r ≡ true → 10 ≤ r → 18 ≤ r
-  pub valid : (x : ℕ) → x < l.vars → IsValid l (l.place x)
-  pub distinct : (x y : ℕ) → x < l.vars → y < l.vars → l.place x ≡ l.place y → x ≡ y
 
 -- the machine's memory beside that of the three-address code
 pub record Memory (l : Site) (m : State) (flat real : Bytes) : Type 0 where
@@ -83,9 +80,9 @@ Holds l s (Slot j) v = number_at s.mem 4 (l.base + 4 * j) ≡ Some v
 Holds l s (Register r) v = register s.regs r ≡ v
 
 pub record Held (l : Site) (s : State) (x v : ℕ) : Type 0 where
-  pub below : x < l.vars
+  pub valid : IsValid l (place_of x)
   pub word : v < 2 ^ 32
-  pub there : Holds l s (l.place x) v
+  pub there : Holds l s (place_of x) v
 
 -- a register that is no place and no t0 to t2
 pub record IsFree (l : Site) (r : ℕ) : Type 0 where
@@ -101,3 +98,31 @@ pub record Before (l : Site) (m : State) (mem : Bytes) (vars : Vars) (k : ℕ) (
   pub kept : (r : ℕ) → IsFree l r → register s.regs r ≡ register m.regs r
   pub held : (x v : ℕ) → get vars x ≡ Some v → Held l s x v
   pub memory : Memory l m mem s.mem
+
+register_by : (n r : ℕ) (b : Bool) → nat_lt n 32 ≡ b → (if b then Register n else Slot (n - 32)) ≡ Register r → n ≡ r
+register_by n r true low is = cc
+register_by n r false high is = absurd (cc)
+
+slot_by : (n j : ℕ) (b : Bool) → nat_lt n 32 ≡ b → (if b then Register n else Slot (n - 32)) ≡ Slot j → n ≡ 32 + j
+slot_by n j true low is = absurd (cc)
+slot_by n j false high is = let same : n - 32 ≡ j = cc in let above = ltb-false n 32 high in omega arith
+
+-- the number of a place
+pub register_number : (n r : ℕ) → place_of n ≡ Register r → n ≡ r
+register_number n r is = register_by n r (nat_lt n 32) refl is
+
+pub slot_number : (n j : ℕ) → place_of n ≡ Slot j → n ≡ 32 + j
+slot_number n j is = slot_by n j (nat_lt n 32) refl is
+
+pub place_slot : (j : ℕ) → place_of (32 + j) ≡ Slot j
+place_slot j = let high : nat_lt (32 + j) 32 ≡ false = grind arith in let same : 32 + j - 32 ≡ j = omega arith in rw (high, same) refl
+
+-- the register of a valid place, or a temporary one
+module _ (l : Site) (m : State) (sound : Sound l m) where
+  pub register_small : (t : ℕ) (p : At) → t < 32 → IsValid l p → register_of t p < 32
+  register_small t (Slot j) small valid = small
+  register_small t (Register r) small valid = sound.to r valid
+
+  pub register_apart : (t q : ℕ) (p : At) → t ≢ q → q < 8 → IsValid l p → register_of t p ≢ q
+  register_apart t q (Slot j) other low valid = other
+  register_apart t q (Register r) other low valid = λ e. omega (arith, sound.from r valid)

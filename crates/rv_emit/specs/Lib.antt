@@ -1,5 +1,5 @@
 pub mod Code
-pub mod Size
+pub mod Branching
 pub mod Names
 pub mod Fit
 pub mod Tables

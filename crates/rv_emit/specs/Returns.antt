@@ -1,5 +1,5 @@
 -- How the code of three-address code returns.
-use Rattle.std.specs.Prelude.{◌≡◌, ℕ, ◌+◌, ◌*◌, ◌<◌, ◌≤◌, ◌⊎◌, List, length, Some, None, Ok, IsSome, ◌↔◌, slice_get}
+use Rattle.std.specs.Prelude.{◌≡◌, ℕ, ◌+◌, ◌*◌, ◌<◌, ◌≤◌, List, length, Some, None, Ok, IsSome, ◌↔◌, slice_get}
 use Rattle.std.specs.FinMap.{get}
 use Rattle.bed_syntax.specs.declared.weights.Weights.{Weights}
 use Rattle.flat_lang.specs.State.{Vars}

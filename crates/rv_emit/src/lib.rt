@@ -3,8 +3,8 @@
 #![tactic(auto)]
 
 mod emission;
+mod frame;
 mod instructions;
-mod length;
 mod statements;
 mod tables;
 

@@ -5,13 +5,6 @@ ghost use Rattle.rv_emit.specs.Tables.{fill, text_of, offsets_from};
 use rup_base::{List, NoMemory, Text};
 use std::alloc::Global;
 
-/// Where the tables are: behind the code, which has so many instructions, each at its offset in their text.
-#[derive(Debug, Drop)]
-pub struct TablePlaces {
-    pub total: u32,
-    pub offsets: List<u64>,
-}
-
 // Zeros up to a multiple of four, where there are so many bytes.
 fn fill_up(text: &mut Text, len: usize) -> Result<(), NoMemory>
     ensures { OnOk result (text.new ≡ text.old ++ fill len) }

@@ -36,10 +36,10 @@ fn a_sum_is_emitted(rt: HostRuntime) -> Result<(), Fail> {
     let f = sum(rt.alloc())?;
     let plan = allocate(rt.alloc(), &f)?;
     let emitted = emit(rt.alloc(), &f, &plan)?;
-    // take the frame, save two arguments, fetch both, add, save, fetch the result, give the frame back, return
-    assert_eq!(rt; emitted.code.len(), 10);
-    let sum = emitted.code.as_slice().get(5).ok_or("an addition")?;
-    assert_eq!(rt; encode(*sum), 0x0062_82b3, "add t0, t0, t1");
-    assert_eq!(rt; emitted.stack, 16);
+    // take the frame, two arguments into t3 and t4, add into t3, the result, give the frame back, return
+    assert_eq!(rt; emitted.code.len(), 7);
+    let sum = emitted.code.as_slice().get(3).ok_or("an addition")?;
+    assert_eq!(rt; encode(*sum), 0x01de_0e33, "add t3, t3, t4");
+    assert_eq!(rt; emitted.stack, 0);
     Ok(())
 }

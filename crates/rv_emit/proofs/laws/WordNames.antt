@@ -1,8 +1,6 @@
 -- The names of the words of code are those of the instructions that the words are of.
 use Rattle.std.proofs.Common.{◌≡◌, ◌≢◌, refl, sym, ap, ◌∙◌, arith, ℕ, ◌⊎◌, inl, inr, Bool, true, false, nat_eq, List, [], ◌∷◌, ◌++◌, map}
 use Rattle.std.proofs.lemmas.Bool.{eqb-true, eq-eqb}
-use Rattle.rup_base.specs.Gather.{joined}
-use Rattle.bed_syntax.specs.Named.{Name}
 use Rattle.rv_code.proofs.laws.Same.{same}
 use Rattle.rv_code.specs.Word.{word_of}
 use Rattle.rv_code.specs.declared.instruction.Instr.{Instr}

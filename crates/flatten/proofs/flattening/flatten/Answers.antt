@@ -1,14 +1,17 @@
-use Rattle.std.proofs.Common.{◌≡◌, sym, ap, subst, ◌∙◌}
+use Rattle.std.proofs.Common.{◌≡◌, ◌≤◌, sym, ap, subst, ◌∙◌}
 use Rattle.bed_syntax.specs.Named.{cmd_names}
+use Rattle.bed_syntax.specs.Pressure.{pressure}
 use Rattle.bed_syntax.specs.Weight.{cmd_weight}
 use Rattle.bed_syntax.specs.declared.weights.Weights.{Weights}
 use Rattle.flat_lang.specs.Count.{code_names, code_weight}
+use Rattle.flat_lang.specs.Pressure.{flat_pressure}
 use Rattle.flat_lang.specs.Whole.{IsWhole}
 use Rattle.flatten.specs.Code.{flat_of}
 use Rattle.flatten.specs.Keeps.{Keeps}
 use Rattle.bed_syntax.specs.Tables.{cmd_tables}
 use Rattle.flatten.proofs.Flattened.{for_ok, weighs, named, listed, whole}
 use Rattle.flatten.proofs.Kept.{keeps}
+use Rattle.flatten.proofs.Pressure.{pressed}
 use Rattle.flatten.proofs.flattening.flatten.Goals as goal
 
 pub returns-clause-keeps : goal.returns-clause-keeps
@@ -36,3 +39,8 @@ pub returns-clause-names : goal.returns-clause-names
 returns-clause-names c =
     for_ok c.code_of.result (λ flat. flat ≡ flat_of c.args.c.now c.args.args c.args.rets.now) (λ flat. code_names flat.body ≡ cmd_names c.args.c.now)
     (λ flat is. ap (λ f. code_names f.body) is ∙ named c.args.c.now c.args.args c.args.rets.now) c.code_of.ensures
+
+pub returns-clause-pressure : goal.returns-clause-pressure
+returns-clause-pressure c =
+    for_ok c.code_of.result (λ flat. flat ≡ flat_of c.args.c.now c.args.args c.args.rets.now) (λ flat. flat_pressure flat ≤ pressure c.args.c.now c.args.args c.args.rets.now)
+    (λ flat is. subst (λ f. flat_pressure f ≤ pressure c.args.c.now c.args.args c.args.rets.now) (sym is) (pressed c.args.c.now c.args.args c.args.rets.now)) c.code_of.ensures

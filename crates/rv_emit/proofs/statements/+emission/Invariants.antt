@@ -1,22 +1,22 @@
-use Rattle.std.proofs.Common.{◌≡◌, ◌+◌, ◌≤◌, ◌++◌, true, drop, map, length}
+use Rattle.std.proofs.Common.{◌≡◌, ◌+◌, ◌≤◌, true, drop, length}
 use Rattle.bed_syntax.specs.declared.weights.TheConstants as weights
 use Rattle.flat_lang.specs.Count.{code_weight}
-use Rattle.flat_lang.specs.Whole.{all_whole}
-use Rattle.rv_code.specs.Word.{word_of}
 use Rattle.rv_emit.specs.Code.{block_code}
-use Rattle.rv_emit.specs.Size.{block_length}
+use Rattle.rv_emit.specs.Emission.{Puts, offset_of}
 use Rattle.rv_emit.specs.Fit.{all_fit}
-use Rattle.rv_emit.specs.Whole.{slot_of}
-use Rattle.rv_emit.specs.Emission.{far_of}
+use Rattle.rv_emit.specs.Whole.{place}
 use Rattle.rv_emit.proofs.statements.+emission.Given as goal
 
--- what is left of the statements gives the whole
-abbrev pub invariant-block-loop-c : goal.invariant-block-loop-c
-invariant-block-loop-c l =
+-- the statements from number i on are there
+abbrev pub invariant-block-loop-i : goal.invariant-block-loop-i
+invariant-block-loop-i l =
     record {
-      words : map word_of l.code ++ map word_of (block_code slot_of (far_of l.tables) (drop l.c-index l.cs) (length l.code)) ≡ map word_of l.fn.code ++ map word_of (block_code slot_of (far_of l.tables) l.cs (length l.fn.code));
-      counted : length l.code + block_length (drop l.c-index l.cs) ≡ length l.fn.code + block_length l.cs;
-      whole : all_whole (length l.plan.places) (length l.tables.offsets) (drop l.c-index l.cs) ≡ true;
-      light : code_weight weights.Weights.LARGE (drop l.c-index l.cs) ≤ code_weight weights.Weights.LARGE l.cs;
-      fit : all_fit l.cs ≡ all_fit (drop l.c-index l.cs);
+      words : Puts l.fn.code.items l.code.items (block_code (place l.plan) (offset_of l.offsets) (drop l.i l.cs) (length l.fn.code.items));
+      counted : length l.code.items ≤ length l.fn.code.items + code_weight weights.Weights.LARGE (drop l.i l.cs);
+      fit : all_fit (drop l.i l.cs) ≡ true;
+      within : l.i ≤ length l.cs;
+      started : l.start ≡ length l.fn.code.items;
     }
+
+abbrev pub decreases-block-loop-i : goal.decreases-block-loop-i
+decreases-block-loop-i l = l.i

@@ -6,7 +6,9 @@ use Rattle.side_certs.specs.LinearForm.{LinearForm, value_at}
 use Rattle.model_syntax.specs.declared.expr.Scalar.{Scalar}
 use Rattle.model_syntax.specs.declared.program.Param.{Param}
 use Rattle.model_syntax.specs.Environment.{Env}
+use Rattle.model_syntax.specs.Names.{Name}
 use Rattle.model_syntax.specs.Scope.{Scope}
+use Rattle.model_syntax.specs.Sound.{IsTyped}
 use Rattle.model_syntax.specs.Value.{is_true}
 use Rattle.sym_heap.specs.declared.parts.Held.{Held}
 use Rattle.sym_heap.specs.declared.parts.Clause.{Clause}
@@ -145,7 +147,7 @@ pub record Came (R : Fact) (ps : List Param) (scope : Scope) (before mid : Conte
   pub consistent : IsConsistent mid
   pub scoped : IsScoped ps scope mid
   pub stays : Stays mid R
-  pub runs : (call : Call) (numbers : ℕ → ℕ) (env : Env) (mem : Bytes) (vars : Vars) → FitsBy call numbers before env mem (local_at vars) → Reached R call before mid numbers env mem vars
+  pub runs : (lengths : Name → ℕ) (call : Call) (numbers : ℕ → ℕ) (env : Env) (mem : Bytes) (vars : Vars) → IsTyped lengths scope env → FitsBy call numbers before env mem (local_at vars) → Reached R call before mid numbers env mem vars
 
 -- nothing was added yet
 abbrev pub Nothing : Fact
@@ -157,7 +159,7 @@ came_start ps scope c consistent scoped = record {
   consistent = consistent;
   scoped = scoped;
   stays = λ v w env mem vars agree is. tt;
-  runs = λ call numbers env mem vars fits. record { others = numbers; agree = agree_self (length c.tops) numbers; fits = fits; is = tt };
+  runs = λ lengths call numbers env mem vars values fits. record { others = numbers; agree = agree_self (length c.tops) numbers; fits = fits; is = tt };
 }
 
 module _ (R : Fact) (ps : List Param) (scope : Scope) (before mid : Context) (came : Came R ps scope before mid) where
@@ -176,8 +178,8 @@ module _ (R : Fact) (ps : List Param) (scope : Scope) (before mid : Context) (ca
           came.stays v w env mem vars (λ s less. agree s (omega (arith, one, less))) is.0,
           agree (length mid.tops) (omega (arith, one)) ∙ is.1,
         );
-        runs = λ call numbers env mem vars fits.
-            (let r : Reached R call before mid numbers env mem vars = came.runs call numbers env mem vars fits in
+        runs = λ lengths call numbers env mem vars values fits.
+            (let r : Reached R call before mid numbers env mem vars = came.runs lengths call numbers env mem vars values fits in
             let w : ℕ → ℕ = given r.others (length mid.tops) (num env) in
             let later : Agree (length mid.tops) r.others w = given_agrees r.others (length mid.tops) (num env) in
             record {
@@ -195,8 +197,8 @@ module _ (R : Fact) (ps : List Param) (scope : Scope) (before mid : Context) (ca
     consistent = consistent_fact mid f known came.consistent;
     scoped = fact_scoped ps scope mid f came.scoped;
     stays = came.stays;
-    runs = λ call numbers env mem vars fits.
-        (let r : Reached R call before mid numbers env mem vars = came.runs call numbers env mem vars fits in
+    runs = λ lengths call numbers env mem vars values fits.
+        (let r : Reached R call before mid numbers env mem vars = came.runs lengths call numbers env mem vars values fits in
         record {
           others = r.others;
           agree = r.agree;
@@ -217,8 +219,8 @@ module _ (R : Fact) (ps : List Param) (scope : Scope) (before mid : Context) (ca
     yes_known = kid.yes_known;
     no_known = kid.no_known;
     locals = kid.locals;
-    runs = λ call numbers env mem vars fits.
-        (let r : Reached R call before mid numbers env mem vars = came.runs call numbers env mem vars fits in
+    runs = λ lengths call numbers env mem vars values fits.
+        (let r : Reached R call before mid numbers env mem vars = came.runs lengths call numbers env mem vars values fits in
         let end_ : Right (sem env) t out r.others mem vars = right call r.others env mem vars r.fits r.is in
         record { others = r.others; agree = r.agree; fits = r.fits; value = end_.value; small = end_.small; form = end_.form; yes = end_.yes; no = end_.no });
   }
@@ -236,8 +238,8 @@ came_one ps scope sem t before after out d = record {
   consistent = d.consistent;
   scoped = d.scoped;
   stays = λ v w env mem vars agree r. right_more before after out (sem env) t v w mem vars (kid_of ps scope sem t before after out d) agree r;
-  runs = λ call numbers env mem vars fits.
-      (let r : ExprRan call (sem env) t before out after numbers env mem vars = d.runs call numbers env mem vars fits in
+  runs = λ lengths call numbers env mem vars values fits.
+      (let r : ExprRan call (sem env) t before out after numbers env mem vars = d.runs lengths call numbers env mem vars values fits in
       record { others = r.others; agree = r.agree; fits = r.fits; is = record { value = r.value; small = r.small; form = r.form; yes = r.yes; no = r.no } });
 }
 
@@ -254,9 +256,9 @@ came_on R S ps scope before mid after one two =
       consistent = two.consistent;
       scoped = two.scoped;
       stays = λ v w env mem vars agree is. (one.stays v w env mem vars (λ s below. agree s (omega (arith, less, below))) is.0, two.stays v w env mem vars agree is.1);
-      runs = λ call numbers env mem vars fits.
-          (let r : Reached R call before mid numbers env mem vars = one.runs call numbers env mem vars fits in
-          let s : Reached S call mid after r.others env mem vars = two.runs call r.others env mem vars r.fits in
+      runs = λ lengths call numbers env mem vars values fits.
+          (let r : Reached R call before mid numbers env mem vars = one.runs lengths call numbers env mem vars values fits in
+          let s : Reached S call mid after r.others env mem vars = two.runs lengths call r.others env mem vars values r.fits in
           record {
             others = s.others;
             agree = agree_on (length before.tops) (length mid.tops) numbers r.others s.others (more_tops before mid one.extends) r.agree s.agree;

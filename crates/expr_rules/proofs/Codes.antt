@@ -1,5 +1,6 @@
 -- The values and the locals of code.
 use Rattle.std.proofs.Common.{◌≡◌, refl, sym, ◌∙◌, ap, ℕ, Bool, true, List, [], ◌∷◌, ◌++◌, Option, Some, if◌then◌else◌}
+use Rattle.rv_memory.specs.Ranges.{Bytes}
 use Rattle.model_syntax.specs.Operation as model
 use Rattle.model_syntax.specs.declared.expr.Op.{Op}
 use Rattle.model_syntax.specs.declared.expr.Op.TheVariants as op
@@ -10,7 +11,7 @@ use Rattle.bed_syntax.specs.declared.operation.Size.{Size}
 use Rattle.bed_syntax.specs.declared.expression.BExpr.{BExpr, BExpr-F, fold-BExpr, fold-roll-BExpr}
 use Rattle.bed_syntax.specs.declared.expression.BExpr.TheOpen as o
 use Rattle.bed_syntax.specs.declared.expression.BExpr.TheVariants as b
-use Rattle.bed_meaning.specs.Access.{Bytes, loaded, entry}
+use Rattle.bed_meaning.specs.Access.{loaded, entry}
 use Rattle.bed_meaning.specs.Locals.{Vars, local_at}
 use Rattle.bed_meaning.specs.Value.{value, value_step, both, then_some}
 use Rattle.expr_rules.specs.Operations.{code_of}

@@ -3,7 +3,7 @@ use Rattle.std.proofs.Common.{◌≡◌, refl, arith, ℕ, ◌+◌, ◌-◌, ◌
 use Rattle.std.proofs.lemmas.Bool.Decides.{nat_tests}
 use Rattle.std.proofs.lemmas.Nat.{le-div}
 use Rattle.std.proofs.Math.Nat.{mod-le, mod-lt, div-le_self, mul-div-le, div-add-mod, div-mul-le_self}
-use Rattle.model_syntax.specs.Operation.{quotient, remainder}
+use Rattle.rup_base.specs.Word.{quotient, remainder}
 
 module _ (m n : ℕ) (some : 1 ≤ n) where
   not_zero : nat_eq n 0 ≡ false

@@ -1,5 +1,5 @@
 -- The row of a node, from what its parts give.
-use Rattle.std.proofs.Common.{◌≡◌, sym, subst, ℕ, ℤ, pos, neg_ℤ, List, [], ◌∷◌, map, Option, Some, Result, Ok}
+use Rattle.std.proofs.Common.{◌≡◌, sym, subst, ℕ, ℤ, pos, neg_ℤ, List, [], ◌∷◌, map, Option, Some, Result, Ok, if◌then◌else◌}
 use Rattle.rup_base.specs.Answers.{AnswersWith}
 use Rattle.rup_base.specs.declared.fail.Fail.{Fail}
 use Rattle.side_certs.specs.LinearForm.{LinearForm, times, within}
@@ -17,12 +17,13 @@ use Rattle.expr_rules.specs.declared.output.ExprOut.{ExprOut}
 use Rattle.expr_rules.specs.Words.{◌>>=◌, asked, has_counts, most, number_of, sum_of, found, Judged}
 use Rattle.expr_rules.specs.rules.Mulk as mulk
 use Rattle.expr_rules.specs.rules.Shift as shift
-use Rattle.expr_rules.specs.Row.{fits, certs_of, parts, judged_step, judged}
+use Rattle.expr_rules.specs.Row.{fits, certs_of, parts, judged_step, judged, args_of, is_rewrite, rewritten}
 
 pub judged_row : (turn : Turn) (n : ExprNode) (at : ℕ) (x : Expr) (c : Context) (result : Result ExprOut Fail) (after : Context)
     → asked (fits (out-ExprNode n).step.rule (out-Expr x)) at 1 ≡ Ok tt
-    → asked (has_counts (out-ExprNode n).step 0 (certs_of (out-ExprNode n).step.rule)) at 2 ≡ Ok tt
-    → AnswersWith result after (parts (out-ExprNode n).step (map (judged turn) (out-ExprNode n).kids) at (out-Expr x) c)
+    → asked (has_counts (out-ExprNode n).step (args_of (out-ExprNode n).step.rule) (certs_of (out-ExprNode n).step.rule)) at 2 ≡ Ok tt
+    → AnswersWith result after ((if is_rewrite (out-ExprNode n).step.rule then rewritten turn (out-ExprNode n).step (map (judged turn) (out-ExprNode n).kids) at x
+    else parts (out-ExprNode n).step (map (judged turn) (out-ExprNode n).kids) at (out-Expr x)) c)
     → AnswersWith result after ((judged turn n).row at x c)
 judged_row turn n at x c result after fit counts is = rw (fold_out-ExprNode Judged (judged_step turn) n) (rw (fit, counts) is)
 

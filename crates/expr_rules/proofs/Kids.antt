@@ -15,7 +15,7 @@ use Rattle.sym_heap.specs.Scoped.{IsScoped}
 use Rattle.expr_rules.specs.declared.output.ExprOut.{ExprOut}
 use Rattle.expr_rules.specs.Words.{Rule, ◌>>=◌, give, Judged, one_kid, two_kids}
 use Rattle.expr_rules.specs.Sound.{ExprDone, Yields, IsSound}
-use Rattle.expr_rules.proofs.laws.Yields.{yields_then}
+use Rattle.expr_rules.proofs.laws.Yields.{yields_then, yields_more}
 use Rattle.expr_rules.proofs.Came.{Kid, Came, Of, And, kid_of, kid_more, came_one, came_on, locals_back}
 
 abbrev pub SoundKid : Judged → Type 0
@@ -44,6 +44,12 @@ module _ (Q : ExprOut → Context → Type 0) (ps : List Param) (scope : Scope) 
   yields_one (a ∷ []) sound x t good k more =
       yields_then Q before (ExprDone ps scope (eval x) t before) (a.row (at + 1) x) k (sound.0 (at + 1) x ps scope t before consistent scoped good.formed good.spelled good.typed) more
   yields_one (a ∷ b ∷ cs) sound x t good k more = tt
+
+  -- the kid's answer is the rule's
+  pub yields_kid : (kids : List Judged) → SoundKids kids → (x : Expr) (t : Scalar) → Good scope x t → ((p : ExprOut) (mid : Context) → ExprDone ps scope (eval x) t before p mid → Q p mid) → Yields Q (one_kid kids at x before)
+  yields_kid [] sound x t good more = tt
+  yields_kid (a ∷ []) sound x t good more = yields_more (ExprDone ps scope (eval x) t before) Q more (a.row (at + 1) x before) (sound.0 (at + 1) x ps scope t before consistent scoped good.formed good.spelled good.typed)
+  yields_kid (a ∷ b ∷ cs) sound x t good more = tt
 
   pub yields_two : (kids : List Judged) → SoundKids kids → (x y : Expr) (t u : Scalar) → Good scope x t → Good scope y u → (k : ExprOut × ExprOut → Rule ExprOut)
       → ((pq : ExprOut × ExprOut) (mid : Context) → Pair ps scope (eval x) (eval y) t u before pq mid → Yields Q (k pq mid)) → Yields Q ((two_kids kids at x y >>= k) before)

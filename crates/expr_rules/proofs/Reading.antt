@@ -34,7 +34,7 @@ read_done R ps scope before mid came sem t at top code less locals is =
       consistent = came.consistent;
       scoped = came.scoped;
       stays = λ v w env mem vars agree r. (came.stays v w env mem vars agree r.0, r.1);
-      runs = λ call numbers env mem vars fits.
-          (let r : Reached R call before mid numbers env mem vars = came.runs call numbers env mem vars fits in
+      runs = λ lengths call numbers env mem vars values fits.
+          (let r : Reached R call before mid numbers env mem vars = came.runs lengths call numbers env mem vars values fits in
           record { others = r.others; agree = r.agree; fits = r.fits; is = (r.is, is call r.others env mem vars r.fits r.is) });
     }

@@ -1,5 +1,5 @@
 -- Each node of a derivation is sound where its kids are, and so is the whole tree.
-use Rattle.std.proofs.Common.{◌≡◌, refl, sym, ◌∙◌, ap, subst, ℕ, ◌%◌, Bool, true, false, List, [], ◌∷◌, map, is_some, Ok, Err}
+use Rattle.std.proofs.Common.{◌≡◌, refl, sym, ◌∙◌, ap, subst, ℕ, ◌%◌, Bool, true, false, List, [], ◌∷◌, map, is_some, if◌then◌else◌, Ok, Err}
 use Rattle.std.proofs.lemmas.Bool.{leb-true}
 use Rattle.rup_base.specs.Name.{is_name}
 use Rattle.model_syntax.specs.declared.expr.Op.{Op}
@@ -23,14 +23,14 @@ use Rattle.model_syntax.proofs.laws.Expressions.{scalar_is, wanted_is, both_are}
 use Rattle.sym_heap.specs.Context.{Context, own}
 use Rattle.sym_heap.specs.Fits.{IsConsistent}
 use Rattle.sym_heap.specs.Scoped.{IsScoped}
-use Rattle.equations.specs.Book.{Turn}
+use Rattle.equations.specs.Book.{Turn, Laws}
 use Rattle.deriv_tree.specs.declared.rule.Rule as deriv
 use Rattle.deriv_tree.specs.declared.rule.Rule.TheVariants as rule
 use Rattle.deriv_tree.specs.declared.tree.Step.{Step}
 use Rattle.deriv_tree.specs.declared.tree.ExprNode.{ExprNode, ExprNode-F, ind-ExprNode, map-ExprNode, roll-ExprNode, fold-roll-ExprNode}
 use Rattle.expr_rules.specs.declared.output.ExprOut.{ExprOut}
-use Rattle.expr_rules.specs.Words.{Rule, ◌>>=◌, need, counted, has_counts, are_none, Judged, one_kid}
-use Rattle.expr_rules.specs.Row.{is_add, is_sub, is_mul, is_and, is_shl, is_remu, fits, certs_of, binary, low, parts, node_row, judged_step, judged}
+use Rattle.expr_rules.specs.Words.{Rule, ◌>>=◌, need, counted, has_counts, are_none, Judged, one_kid, found}
+use Rattle.expr_rules.specs.Row.{is_add, is_sub, is_mul, is_and, is_shl, is_remu, fits, certs_of, binary, low, parts, node_row, judged_step, judged, args_of, rewritten, is_rewrite}
 use Rattle.expr_rules.specs.Sound.{ExprDone, Yields, IsSound, InstancesAreSound}
 use Rattle.expr_rules.specs.rules.Lit as lit
 use Rattle.expr_rules.specs.rules.Var as var
@@ -42,9 +42,10 @@ use Rattle.expr_rules.specs.rules.Both as both
 use Rattle.expr_rules.specs.rules.Either as either
 use Rattle.expr_rules.specs.rules.Get as element_of
 use Rattle.expr_rules.specs.rules.Tab as entry_of
+use Rattle.expr_rules.specs.rules.Rw as rewriting
 use Rattle.expr_rules.proofs.laws.Yields.{yields_need, yields_found}
 use Rattle.expr_rules.proofs.Came.{came_start}
-use Rattle.expr_rules.proofs.Kids.{SoundKid, SoundKids, Pair, yields_one, yields_two}
+use Rattle.expr_rules.proofs.Kids.{SoundKid, SoundKids, Pair, yields_one, yields_kid, yields_two}
 use Rattle.expr_rules.proofs.sound.Lit as lit_holds
 use Rattle.expr_rules.proofs.sound.Var as var_holds
 use Rattle.expr_rules.proofs.sound.Len as len_holds
@@ -65,6 +66,7 @@ use Rattle.expr_rules.proofs.sound.Both as both_holds
 use Rattle.expr_rules.proofs.sound.Either as either_holds
 use Rattle.expr_rules.proofs.sound.Get as get_holds
 use Rattle.expr_rules.proofs.sound.Tab as tab_holds
+use Rattle.expr_rules.proofs.sound.Rw as rw_holds
 
 -- an expression from its parts
 abbrev evaluated : Expr-F Expr → Env → ℕ
@@ -273,15 +275,30 @@ module _ (step : Step) (kids : List Judged) (sound : SoundKids kids) (at : ℕ) 
       (record { formed = formed.1; spelled = spelled.1; typed = typed.0 }) (λ p. entry_of.after step.certs at u ns p)
       (λ p mid d. tab_holds.sound ps scope (eval i) c p mid d step.certs at u ns formed.0 spelled.0 small)))
 
-node_sound : (turn : Turn) (step : Step) (kids : List Judged) → SoundKids kids → (at : ℕ) (x : Expr) → IsSound x (node_row turn step kids at x)
-node_sound turn step kids sound at x ps scope t c consistent scoped formed spelled typed =
-    subst (λ (sem : Env → ℕ). Yields (ExprDone ps scope sem t c) (node_row turn step kids at x c)) (sym (fold_out-Expr (Env → ℕ) eval_step x))
-    (yields_need (Q (out-Expr x)) c (fits step.rule (out-Expr x)) at 1 (λ _. counted step 0 (certs_of step.rule) at >>= (λ _. parts step kids at (out-Expr x)))
-    (λ fit. yields_need (Q (out-Expr x)) c (has_counts step 0 (certs_of step.rule)) at 2 (λ _. parts step kids at (out-Expr x))
-    (λ counts. parts_sound step kids sound at ps scope c consistent scoped (out-Expr x) t good fit)))
+-- the rule of equations
+rewritten_sound : (turn : Turn) → Laws turn → (step : Step) (kids : List Judged) → SoundKids kids → (at : ℕ) (x : Expr) → IsSound x (rewritten turn step kids at x)
+rewritten_sound turn laws step kids sound at x ps scope t c consistent scoped formed spelled typed =
+    yields_found Q c (rewriting.step_of step.args) at 3 (λ n. found (turn n x) at 4 >>= (λ y. one_kid kids at y))
+    (λ n number. yields_found Q c (turn n x) at 4 (λ y. one_kid kids at y)
+    (λ y is.
+    let better = laws.makes_nothing_worse n x y is in
+    yields_kid Q ps scope c consistent scoped at kids sound y t
+    (record { formed = better.formed formed; spelled = better.spellable spelled; typed = (laws.keeps_meaning n x y is formed).type scope t typed })
+    (λ p mid d. rw_holds.sound turn laws ps scope t c n x y is formed typed p mid d)))
   where
-    Q : Expr-F Expr → ExprOut → Context → Type 0
-    Q y = ExprDone ps scope (evaluated y) t c
+    Q : ExprOut → Context → Type 0
+    Q = ExprDone ps scope (eval x) t c
+
+node_sound : (turn : Turn) → Laws turn → (step : Step) (kids : List Judged) → SoundKids kids → (at : ℕ) (x : Expr) → IsSound x (node_row turn step kids at x)
+node_sound turn laws step kids sound at x ps scope t c consistent scoped formed spelled typed =
+    yields_need Whole c (fits step.rule (out-Expr x)) at 1 (λ _. counted step (args_of step.rule) (certs_of step.rule) at >>= (λ _. rule_row))
+    (λ fit. yields_need Whole c (has_counts step (args_of step.rule) (certs_of step.rule)) at 2 (λ _. rule_row) (λ counts. by fit (is_rewrite step.rule)))
+  where
+    Whole : ExprOut → Context → Type 0
+    Whole = ExprDone ps scope (eval x) t c
+
+    rule_row : Rule ExprOut
+    rule_row = if is_rewrite step.rule then rewritten turn step kids at x else parts step kids at (out-Expr x)
 
     good : GoodParts scope (out-Expr x) t
     good = record {
@@ -289,6 +306,12 @@ node_sound turn step kids sound at x ps scope t c consistent scoped formed spell
       spelled = sym (fold_out-Expr Bool expr_spellable_step x) ∙ spelled;
       typed = sym (ap (λ (g : Scope → Typing). g scope) (fold_out-Expr (Scope → Typing) type_step x)) ∙ typed;
     }
+
+    by : fits step.rule (out-Expr x) ≡ true → (b : Bool) → Yields Whole ((if b then rewritten turn step kids at x else parts step kids at (out-Expr x)) c)
+    by fit true = rewritten_sound turn laws step kids sound at x ps scope t c consistent scoped formed spelled typed
+    by fit false =
+        subst (λ (sem : Env → ℕ). Yields (ExprDone ps scope sem t c) (parts step kids at (out-Expr x) c)) (sym (fold_out-Expr (Env → ℕ) eval_step x))
+        (parts_sound step kids sound at ps scope c consistent scoped (out-Expr x) t good fit)
 
 -- trees
 
@@ -299,10 +322,10 @@ kids_sound : (turn : Turn) (nodes : List ((n : ExprNode) × SoundTree turn n)) �
 kids_sound turn [] = tt
 kids_sound turn (p ∷ ps) = (p.1, kids_sound turn ps)
 
-tree_sound : (turn : Turn) (node : ExprNode) → SoundTree turn node
-tree_sound turn = ind-ExprNode (SoundTree turn) (λ z y is. subst (λ r. SoundTree turn (roll-ExprNode r)) is (rolled y)) where
+tree_sound : (turn : Turn) → Laws turn → (node : ExprNode) → SoundTree turn node
+tree_sound turn laws = ind-ExprNode (SoundTree turn) (λ z y is. subst (λ r. SoundTree turn (roll-ExprNode r)) is (rolled y)) where
   rolled : (y : ExprNode-F ((n : ExprNode) × SoundTree turn n)) → SoundTree turn (roll-ExprNode (map-ExprNode ((n : ExprNode) × SoundTree turn n) ExprNode (λ p. p.0) y))
-  rolled y = rw (fold-roll-ExprNode Judged (judged_step turn) (map-ExprNode ((n : ExprNode) × SoundTree turn n) ExprNode (λ p. p.0) y)) (λ at x. node_sound turn y.step (map (judged turn) (map (λ p. p.0) y.kids)) (kids_sound turn y.kids) at x)
+  rolled y = rw (fold-roll-ExprNode Judged (judged_step turn) (map-ExprNode ((n : ExprNode) × SoundTree turn n) ExprNode (λ p. p.0) y)) (λ at x. node_sound turn laws y.step (map (judged turn) (map (λ p. p.0) y.kids)) (kids_sound turn y.kids) at x)
 
 pub instances_are_sound : InstancesAreSound
-instances_are_sound turn laws node at x = tree_sound turn node at x
+instances_are_sound turn laws node at x = tree_sound turn laws node at x

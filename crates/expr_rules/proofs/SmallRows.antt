@@ -1,5 +1,5 @@
 -- Each node of a derivation gives small code where its kids do, and so does the whole tree.
-use Rattle.std.proofs.Common.{◌≡◌, refl, sym, subst, arith, ℕ, ◌+◌, ◌-◌, ◌*◌, ◌/◌, is_some, List, [], ◌∷◌, ◌++◌, length, map, Option, Some, None, Result, Ok, Err, ℤ, pos, negsuc, neg_ℤ, ◌+ℤ◌}
+use Rattle.std.proofs.Common.{◌≡◌, refl, sym, subst, arith, ℕ, ◌+◌, ◌-◌, ◌*◌, ◌/◌, is_some, List, [], ◌∷◌, ◌++◌, length, map, Option, Some, None, Result, Ok, Err, ℤ, pos, negsuc, neg_ℤ, ◌+ℤ◌, ◌≤◌, Bool, true, false, if◌then◌else◌}
 use Rattle.rup_base.specs.Gather.{greatest}
 use Rattle.rup_base.specs.declared.refusal.Refusal.{Refusal}
 use Rattle.side_certs.specs.LinearForm.{LinearForm, constant, symbol, plus, minus, times}
@@ -16,7 +16,7 @@ use Rattle.sym_heap.specs.declared.parts.Held.{Held}
 use Rattle.sym_heap.specs.declared.parts.Clause.{Clause}
 use Rattle.sym_heap.specs.Context.{Context, own, scalar, with_top, with_fact}
 use Rattle.sym_heap.specs.Elements.{element_top}
-use Rattle.equations.specs.Book.{Turn}
+use Rattle.equations.specs.Book.{Turn, Laws}
 use Rattle.deriv_tree.specs.Measure as derivation
 use Rattle.deriv_tree.specs.declared.rule.Rule as deriv
 use Rattle.deriv_tree.specs.declared.rule.Rule.TheVariants as rule
@@ -28,8 +28,8 @@ use Rattle.bed_syntax.specs.declared.expression.BExpr.{BExpr}
 use Rattle.bed_syntax.specs.declared.expression.BExpr.TheVariants as b
 use Rattle.expr_rules.specs.declared.output.ExprOut.{ExprOut}
 use Rattle.expr_rules.specs.Operations.{code_of, test_of}
-use Rattle.expr_rules.specs.Words.{Rule, ◌>>=◌, need, counted, has_counts, are_none, Judged, sizes, one_kid, two_kids, give, plain, most, number_of, number_in, made, fresh, fact, sum_of, fresh_result}
-use Rattle.expr_rules.specs.Row.{fits, certs_of, binary, low, parts, node_row, judged_step, judged}
+use Rattle.expr_rules.specs.Words.{Rule, ◌>>=◌, need, counted, has_counts, are_none, Judged, sizes, one_kid, two_kids, give, plain, most, number_of, number_in, made, fresh, fact, sum_of, fresh_result, found}
+use Rattle.expr_rules.specs.Row.{fits, certs_of, binary, low, parts, node_row, judged_step, judged, args_of, rewritten, is_rewrite}
 use Rattle.expr_rules.specs.Small.{IsSmallCode, CodesAreSmall}
 use Rattle.expr_rules.specs.Sound.{Yields}
 use Rattle.expr_rules.specs.rules.Add as add
@@ -48,9 +48,10 @@ use Rattle.expr_rules.specs.rules.Remk as remk
 use Rattle.expr_rules.specs.rules.Shift as shift
 use Rattle.expr_rules.specs.rules.Sub as sub
 use Rattle.expr_rules.specs.rules.Tab as tab
+use Rattle.expr_rules.specs.rules.Rw as rewriting
 use Rattle.expr_rules.specs.rules.Var as var
 use Rattle.expr_rules.specs.rules.Word as word
-use Rattle.expr_rules.proofs.laws.Yields.{yields_then, yields_need, yields_found, yields_made, yields_shown, yields_fresh, yields_fact}
+use Rattle.expr_rules.proofs.laws.Yields.{yields_more, yields_then, yields_need, yields_found, yields_made, yields_shown, yields_fresh, yields_fact}
 use Rattle.expr_rules.proofs.Sizes.{size_is}
 use Rattle.expr_rules.proofs.Small.{IsSmall, size_more, lit_small, var_small, same_small, bin_small, number_small, element_small, entry_small}
 
@@ -347,15 +348,43 @@ module _ (step : Step) (kids : List Judged) (small : SmallKids kids) (at : ℕ) 
       (λ few. one_small (λ out d. IsSmall (1 + sizes kids) (entry_bytes t * length ns + expr_tables x) out.code) at c kids small x (λ p. tab.after step.certs at t ns p)
       (λ p mid is. tab_given (IsSmall (1 + sizes kids) (entry_bytes t * length ns + expr_tables x)) step.certs at t ns p mid (entry_small t ns p.code (sizes kids) (expr_tables x) is)))
 
-node_small : (turn : Turn) (step : Step) (kids : List Judged) → SmallKids kids → (at : ℕ) (x : Expr) (c : Context)
-    → Yields (λ out d. IsSmall (1 + sizes kids) (expr_tables x) out.code) (node_row turn step kids at x c)
-node_small turn step kids small at x c =
-    subst (λ (bytes : ℕ). Yields (λ out d. IsSmall (1 + sizes kids) bytes out.code) (node_row turn step kids at x c)) (sym (fold_out-Expr ℕ expr_tables_step x))
-    (yields_need Q c (fits step.rule (out-Expr x)) at 1 (λ _. counted step 0 (certs_of step.rule) at >>= (λ _. parts step kids at (out-Expr x)))
-    (λ fit. yields_need Q c (has_counts step 0 (certs_of step.rule)) at 2 (λ _. parts step kids at (out-Expr x)) (λ counts. parts_small step kids small at c (out-Expr x))))
+-- the rule of equations
+rewritten_small : (turn : Turn) → Laws turn → (step : Step) (kids : List Judged) → SmallKids kids → (at : ℕ) (x : Expr) (c : Context)
+    → Yields (λ out d. IsSmall (1 + sizes kids) (expr_tables x) out.code) (rewritten turn step kids at x c)
+rewritten_small turn laws step kids small at x c =
+    yields_found Q c (rewriting.step_of step.args) at 3 (λ n. found (turn n x) at 4 >>= (λ y. one_kid kids at y))
+    (λ n number. yields_found Q c (turn n x) at 4 (λ y. one_kid kids at y) (λ y is. by kids small y ((laws.makes_nothing_worse n x y is).tables)))
   where
     Q : ExprOut → Context → Type 0
-    Q out d = IsSmall (1 + sizes kids) (tables_of (out-Expr x)) out.code
+    Q out d = IsSmall (1 + sizes kids) (expr_tables x) out.code
+
+    by : (ks : List Judged) → SmallKids ks → (y : Expr) → expr_tables y ≤ expr_tables x → Yields (λ out d. IsSmall (1 + sizes ks) (expr_tables x) out.code) (one_kid ks at y c)
+    by [] smalls y less = tt
+    by (a ∷ []) smalls y less =
+        yields_more (λ out d. IsSmall a.size (expr_tables y) out.code) (λ out d. IsSmall (1 + sizes (a ∷ [])) (expr_tables x) out.code)
+        (λ p mid is.
+        let total : sizes (a ∷ []) ≡ 0 + a.size = refl in
+        size_more (5 * a.size) (5 * (1 + sizes (a ∷ []))) a.size (1 + sizes (a ∷ [])) (expr_tables y) (expr_tables x) p.code (omega (arith, total)) (omega (arith, total)) less is)
+        (a.row (at + 1) y c) (smalls.0 (at + 1) y c)
+    by (a ∷ z ∷ zs) smalls y less = tt
+
+node_small : (turn : Turn) → Laws turn → (step : Step) (kids : List Judged) → SmallKids kids → (at : ℕ) (x : Expr) (c : Context)
+    → Yields (λ out d. IsSmall (1 + sizes kids) (expr_tables x) out.code) (node_row turn step kids at x c)
+node_small turn laws step kids small at x c =
+    yields_need Q c (fits step.rule (out-Expr x)) at 1 (λ _. counted step (args_of step.rule) (certs_of step.rule) at >>= (λ _. rule_row))
+    (λ fit. yields_need Q c (has_counts step (args_of step.rule) (certs_of step.rule)) at 2 (λ _. rule_row) (λ counts. by (is_rewrite step.rule)))
+  where
+    Q : ExprOut → Context → Type 0
+    Q out d = IsSmall (1 + sizes kids) (expr_tables x) out.code
+
+    rule_row : Rule ExprOut
+    rule_row = if is_rewrite step.rule then rewritten turn step kids at x else parts step kids at (out-Expr x)
+
+    by : (rewrites : Bool) → Yields Q ((if rewrites then rewritten turn step kids at x else parts step kids at (out-Expr x)) c)
+    by true = rewritten_small turn laws step kids small at x c
+    by false =
+        subst (λ (bytes : ℕ). Yields (λ out d. IsSmall (1 + sizes kids) bytes out.code) (parts step kids at (out-Expr x) c)) (sym (fold_out-Expr ℕ expr_tables_step x))
+        (parts_small step kids small at c (out-Expr x))
 
 -- Trees.
 
@@ -366,10 +395,10 @@ kids_small : (turn : Turn) (nodes : List ((n : ExprNode) × SmallTree turn n)) �
 kids_small turn [] = tt
 kids_small turn (p ∷ ps) = (p.1, kids_small turn ps)
 
-tree_small : (turn : Turn) (node : ExprNode) → SmallTree turn node
-tree_small turn = ind-ExprNode (SmallTree turn) (λ z y is. subst (λ r. SmallTree turn (roll-ExprNode r)) is (rolled y)) where
+tree_small : (turn : Turn) → Laws turn → (node : ExprNode) → SmallTree turn node
+tree_small turn laws = ind-ExprNode (SmallTree turn) (λ z y is. subst (λ r. SmallTree turn (roll-ExprNode r)) is (rolled y)) where
   rolled : (y : ExprNode-F ((n : ExprNode) × SmallTree turn n)) → SmallTree turn (roll-ExprNode (map-ExprNode ((n : ExprNode) × SmallTree turn n) ExprNode (λ p. p.0) y))
-  rolled y = rw (fold-roll-ExprNode Judged (judged_step turn) (map-ExprNode ((n : ExprNode) × SmallTree turn n) ExprNode (λ p. p.0) y)) (λ at x c. node_small turn y.step (map (judged turn) (map (λ p. p.0) y.kids)) (kids_small turn y.kids) at x c)
+  rolled y = rw (fold-roll-ExprNode Judged (judged_step turn) (map-ExprNode ((n : ExprNode) × SmallTree turn n) ExprNode (λ p. p.0) y)) (λ at x c. node_small turn laws y.step (map (judged turn) (map (λ p. p.0) y.kids)) (kids_small turn y.kids) at x c)
 
 small_yields : (x : Expr) (m n : ℕ) → m ≡ n → (r : Result (ExprOut × Context) Refusal) → Yields (λ out d. IsSmall m (expr_tables x) out.code) r → Yields (λ out d. IsSmallCode x n out) r
 small_yields x m n same (Ok p) is =
@@ -379,4 +408,4 @@ small_yields x m n same (Ok p) is =
 small_yields x m n same (Err refusal) is = tt
 
 pub codes_are_small : CodesAreSmall
-codes_are_small turn laws node at x c = small_yields x (judged turn node).size (derivation.expr_size node) (size_is turn node) ((judged turn node).row at x c) (tree_small turn node at x c)
+codes_are_small turn laws node at x c = small_yields x (judged turn node).size (derivation.expr_size node) (size_is turn node) ((judged turn node).row at x c) (tree_small turn laws node at x c)

@@ -13,6 +13,7 @@ pub mod Mulk
 pub mod Not
 pub mod Op
 pub mod Remk
+pub mod Rw
 pub mod Shift
 pub mod Sub
 pub mod Tab

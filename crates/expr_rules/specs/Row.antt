@@ -2,8 +2,8 @@
 -- derives by them. A node's conditions are numbered: 1 that the rule is for the expression, 2 the numbers of arguments and
 -- certificates, 3 that arguments are in range, that made forms are within the limits and that there is room for what the rule
 -- adds to the context, and from 4 on the rule's own. Conditions 1 to 3 on the node alone and those on the context come before
--- the kids, all else after them. A rule that is not built is for no expression.
-use Rattle.std.specs.Prelude.{ℕ, ◌+◌, Bool, true, false, List}
+-- the kids, all else after them. A rule for statements is for no expression.
+use Rattle.std.specs.Prelude.{ℕ, ◌+◌, Bool, true, false, List, if◌then◌else◌}
 use Rattle.model_syntax.specs.Names.{Name}
 use Rattle.model_syntax.specs.declared.expr.Op.{Op}
 use Rattle.model_syntax.specs.declared.expr.Op.TheVariants as op
@@ -16,7 +16,7 @@ use Rattle.deriv_tree.specs.declared.rule.Rule as deriv
 use Rattle.deriv_tree.specs.declared.tree.Step.{Step}
 use Rattle.deriv_tree.specs.declared.tree.ExprNode.{ExprNode, ExprNode-F, fold-ExprNode}
 use Rattle.expr_rules.specs.declared.output.ExprOut.{ExprOut}
-use Rattle.expr_rules.specs.Words.{Rule, ◌>>=◌, need, refuse, counted, Judged, sizes, are_none, no_kid, one_kid, two_kids}
+use Rattle.expr_rules.specs.Words.{Rule, ◌>>=◌, need, found, refuse, counted, Judged, sizes, are_none, no_kid, one_kid, two_kids}
 use Rattle.expr_rules.specs.rules.Lit as lit
 use Rattle.expr_rules.specs.rules.Var as var
 use Rattle.expr_rules.specs.rules.Len as len
@@ -37,6 +37,7 @@ use Rattle.expr_rules.specs.rules.Byte as byte
 use Rattle.expr_rules.specs.rules.Cut as cut
 use Rattle.expr_rules.specs.rules.Get as get
 use Rattle.expr_rules.specs.rules.Tab as tab
+use Rattle.expr_rules.specs.rules.Rw as rewriting
 
 abbrev pub is_add : Op → Bool
 is_add op.Add = true
@@ -90,7 +91,13 @@ fits rule.EByte (e.ToByte x) = true
 fits rule.ECut (e.ToByte x) = true
 fits rule.EGet (e.Get a i) = true
 fits rule.ETab (e.Tab t ns i) = true
+fits rule.ERw _ = true
 fits _ _ = false
+
+-- the number of arguments
+abbrev pub args_of : deriv.Rule → ℕ
+args_of rule.ERw = 1
+args_of _ = 0
 
 -- the number of certificates
 abbrev pub certs_of : deriv.Rule → ℕ
@@ -167,11 +174,22 @@ parts step kids at (e.Tab t ns i) = do
   p ← one_kid kids at i
   tab.after step.certs at t ns p
 
+-- the rule of equations, whose kid is for what the book makes of the expression
+abbrev pub rewritten : Turn → Step → List Judged → ℕ → Expr → Rule ExprOut
+rewritten turn step kids at x = do
+  n ← found (rewriting.step_of step.args) at 3
+  y ← found (turn n x) at 4
+  one_kid kids at y
+
+abbrev pub is_rewrite : deriv.Rule → Bool
+is_rewrite rule.ERw = true
+is_rewrite _ = false
+
 abbrev pub node_row : Turn → Step → List Judged → ℕ → Expr → Rule ExprOut
 node_row turn step kids at x = do
   _ ← need (fits step.rule (out-Expr x)) at 1
-  _ ← counted step 0 (certs_of step.rule) at
-  parts step kids at (out-Expr x)
+  _ ← counted step (args_of step.rule) (certs_of step.rule) at
+  if is_rewrite step.rule then rewritten turn step kids at x else parts step kids at (out-Expr x)
 
 abbrev pub judged_step : Turn → ExprNode-F Judged → Judged
 judged_step turn n = record { size = 1 + sizes n.kids; row = node_row turn n.step n.kids }

@@ -11,7 +11,9 @@ use Rattle.model_syntax.specs.declared.program.Param.{Param}
 use Rattle.model_syntax.specs.Environment.{Env}
 use Rattle.model_syntax.specs.ExprType.{type_of}
 use Rattle.model_syntax.specs.Formed.{expr_formed}
+use Rattle.model_syntax.specs.Names.{Name}
 use Rattle.model_syntax.specs.Scope.{Scope}
+use Rattle.model_syntax.specs.Sound.{IsTyped}
 use Rattle.model_syntax.specs.Spelling.{expr_spellable}
 use Rattle.model_syntax.specs.Value.{eval, is_true}
 use Rattle.sym_heap.specs.declared.parts.Held.{Held}
@@ -73,8 +75,9 @@ pub record ExprDone (ps : List Param) (scope : Scope) (sem : Env → ℕ) (t : S
   pub no_known : AllKnown (length after.tops) out.no
   -- no other local occurs in the code
   pub locals : (xs : List ℕ) → HasLocals before xs → expr_locals out.code xs ≡ xs
-  pub runs : (call : Call) (numbers : ℕ → ℕ) (env : Env) (mem : Bytes) (vars : Vars) → FitsBy call numbers before env mem (local_at vars)
-      → ExprRan call (sem env) t before out after numbers env mem vars
+  -- where the names in scope have values of their types
+  pub runs : (lengths : Name → ℕ) (call : Call) (numbers : ℕ → ℕ) (env : Env) (mem : Bytes) (vars : Vars) → IsTyped lengths scope env
+      → FitsBy call numbers before env mem (local_at vars) → ExprRan call (sem env) t before out after numbers env mem vars
 
 -- where there is an answer, it is so
 abbrev pub Yields : {A : Type 0} → (A → Context → Type 0) → Result (A × Context) Refusal → Type 0

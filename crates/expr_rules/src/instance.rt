@@ -1,5 +1,5 @@
 //! What a derivation gives for an expression.
-ghost use Rattle.std.specs.Prelude.{◌≡◌, [], ◌+◌, ◌≤◌, map, OnOk};
+ghost use Rattle.std.specs.Prelude.{◌≡◌, [], ◌+◌, ◌≤◌, map, OnOk, if◌then◌else◌};
 ghost use Rattle.rup_base.specs.Answers.{Answers, AnswersWith};
 ghost use Rattle.model_syntax.specs.declared.expr.Expr.{out-Expr};
 ghost use Rattle.deriv_tree.specs.Measure.{expr_size};
@@ -8,8 +8,8 @@ ghost use Rattle.expr_rules.specs.Row as spec;
 
 use crate::output::ExprOut;
 use crate::rules::{
-    add, both, byte, cmp, cut, divk, either, get, len, lit, mask, mulk, not, op, remk, shift, sub,
-    tab, var, word,
+    add, both, byte, cmp, cut, divk, either, get, len, lit, mask, mulk, not, op, remk, rw, shift,
+    sub, tab, var, word,
 };
 use crate::words::{counted, need, no_instance};
 use deriv_tree::{ExprNode, Rule, Step};
@@ -43,8 +43,26 @@ fn fits(rule: Rule, e: &Expr) -> bool
         (Rule::EByte | Rule::ECut, Expr::ToByte(_)) => true,
         (Rule::EGet, Expr::Get(_, _)) => true,
         (Rule::ETab, Expr::Tab(_, _, _)) => true,
+        (Rule::ERw, _) => true,
         _ => false,
     }
+}
+
+/// The number of arguments of a rule.
+fn args_of(rule: Rule) -> usize
+    ensures { result ≡ spec.args_of rule }
+{
+    match rule {
+        Rule::ERw => 1,
+        _ => 0,
+    }
+}
+
+/// The rule is that of equations.
+fn is_rewrite(rule: Rule) -> bool
+    ensures { result ≡ spec.is_rewrite rule }
+{
+    matches!(rule, Rule::ERw)
 }
 
 /// The number of certificates of a rule.
@@ -154,11 +172,59 @@ fn judge<B: Book>(
     let step = &node.step;
     let kids = node.kids.as_slice();
     need(fits(step.rule, e), at, 1)?;
-    counted(step, 0, certs_of(step.rule), at)?;
-    parts(ctx, next, at, kids, step, e, book)
+    counted(step, args_of(step.rule), certs_of(step.rule), at)?;
+    by_rule(ctx, next, at, kids, step, e, book)
 }
 
 /// What a rule that is for the expression gives, of the node with the number `at`.
+#[cycle(judge)]
+fn by_rule<B: Book>(
+    ctx: &mut Ctx,
+    next: &mut u32,
+    at: u32,
+    kids: &[Box<ExprNode>],
+    step: &Step,
+    e: &Expr,
+    book: &B,
+) -> Result<ExprOut, Fail>
+    requires numbered { next.old ≡ at + 1 }
+    requires small { next.old + words.sizes (map (spec.judged (B.turn book.now)) kids.now) ≤ 20_000 }
+    ensures row { AnswersWith result ctx.new ((if spec.is_rewrite step.now.rule then spec.rewritten (B.turn book.now) step.now (map (spec.judged (B.turn book.now)) kids.now) at e.now else spec.parts step.now (map (spec.judged (B.turn book.now)) kids.now) at (out-Expr e.now)) ctx.old) }
+    ensures counted { OnOk result (next.new ≡ next.old + words.sizes (map (spec.judged (B.turn book.now)) kids.now)) }
+{
+    if is_rewrite(step.rule) {
+        rewritten(ctx, next, at, kids, step, e, book)
+    } else {
+        parts(ctx, next, at, kids, step, e, book)
+    }
+}
+
+/// What the rule of equations gives: its kid is for what the book makes of the expression.
+#[cycle(judge)]
+fn rewritten<B: Book>(
+    ctx: &mut Ctx,
+    next: &mut u32,
+    at: u32,
+    kids: &[Box<ExprNode>],
+    step: &Step,
+    e: &Expr,
+    book: &B,
+) -> Result<ExprOut, Fail>
+    requires numbered { next.old ≡ at + 1 }
+    requires small { next.old + words.sizes (map (spec.judged (B.turn book.now)) kids.now) ≤ 20_000 }
+    ensures row { AnswersWith result ctx.new (spec.rewritten (B.turn book.now) step.now (map (spec.judged (B.turn book.now)) kids.now) at e.now ctx.old) }
+    ensures counted { OnOk result (next.new ≡ next.old + words.sizes (map (spec.judged (B.turn book.now)) kids.now)) }
+{
+    let Some(number) = rw::step_of(step.args.as_slice()) else {
+        return Err(no_instance(at, 3));
+    };
+    match book.apply(ctx.allocator(), number, e)? {
+        Some(other) => one_kid(ctx, next, at, kids, &other, book),
+        None => Err(no_instance(at, 4)),
+    }
+}
+
+/// What a rule gives by the shape of the expression, of the node with the number `at`.
 #[cycle(judge)]
 fn parts<B: Book>(
     ctx: &mut Ctx,

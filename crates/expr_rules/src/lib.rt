@@ -6,7 +6,7 @@ pub mod elements;
 mod instance;
 pub mod laws;
 mod output;
-mod rules;
+pub mod rules;
 pub mod words;
 
 pub use instance::expr_instance;

@@ -14,6 +14,7 @@ pub mod mulk;
 pub mod not;
 pub mod op;
 pub mod remk;
+pub mod rw;
 pub mod shift;
 pub mod sub;
 pub mod tab;

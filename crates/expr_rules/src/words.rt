@@ -138,7 +138,8 @@ pub fn number_in(low: u32, high: u32, form: &Form) -> Option<u32>
     }
 }
 
-fn in_range(low: u32, high: u32, k: i64) -> Option<u32>
+/// The number `k`, where it is one from `low` to `high`.
+pub fn in_range(low: u32, high: u32, k: i64) -> Option<u32>
     ensures number { result ≡ spec.in_range low high k }
     ensures range { IfSome result (λ n. (low ≤ n) × (n ≤ high)) }
 {

@@ -1,24 +1,26 @@
 -- What an accepted derivation comes to computes the model, is measured and small.
-use Rattle.std.proofs.Common.{◌≡◌, refl, sym, ◌∙◌, ap, subst, arith, ℕ, ◌+◌, ◌*◌, ◌<◌, ◌≤◌, nat_eq, nat_le, Bool, true, false, List, [], ◌∷◌, length, map, sum, Option, Some, None, Result, Ok, Err, IfOk, if◌then◌else◌}
-use Rattle.std.proofs.lemmas.Bool.{eqb-true, leb-true}
+use Rattle.std.proofs.Common.{◌≡◌, refl, sym, ◌∙◌, ap, subst, arith, ℕ, ◌+◌, ◌*◌, ◌<◌, ◌≤◌, nat_le, Bool, true, false, List, [], length, map, sum, Result, Ok, Err, IfOk, if◌then◌else◌}
+use Rattle.std.proofs.lemmas.Bool.{leb-true}
 use Rattle.rup_base.specs.Answers.{Answers}
 use Rattle.rup_base.specs.declared.fail.Fail.{Fail}
 use Rattle.rup_base.specs.Gather.{all_true, joined}
 use Rattle.rup_base.specs.Name.{is_name}
 use Rattle.rup_base.specs.declared.arg.Arg.{Arg}
-use Rattle.rup_base.specs.declared.refusal.Refusal.TheVariants.{OverSlots, OverBound, OverSize}
+use Rattle.rup_base.specs.declared.refusal.Refusal.TheVariants.{OverSlots, OverSize}
 use Rattle.rv_memory.specs.Ranges.{Bytes}
-use Rattle.cost_poly.specs.Polynomial.{at, term, make, greatest_coefficient}
-use Rattle.cost_poly.specs.declared.term.Term.{Term}
+use Rattle.cost_poly.specs.Polynomial.{BoundFrom, at}
+use Rattle.model_syntax.specs.Entries.{entry_names}
 use Rattle.model_syntax.specs.Environment.{Env}
 use Rattle.model_syntax.specs.Formed.{model_formed, param_formed, facts_formed, stmt_formed, ret_formed}
 use Rattle.model_syntax.specs.Limits as limits
-use Rattle.model_syntax.specs.Names.{same}
+use Rattle.model_syntax.specs.Names.{Name, same}
+use Rattle.model_syntax.specs.Sound.{IsTyped}
 use Rattle.model_syntax.specs.Spelling.{Spellable}
 use Rattle.model_syntax.specs.Types as types
 use Rattle.model_syntax.specs.Value as model
 use Rattle.model_syntax.specs.declared.program.Model.{Model}
 use Rattle.model_syntax.proofs.laws.Arrays.{and_parts}
+use Rattle.model_syntax.proofs.laws.Models.{starts_typed}
 use Rattle.sym_heap.specs.Arrival.{StartFits, numbers_of}
 use Rattle.sym_heap.specs.Context.{Context}
 use Rattle.sym_heap.specs.Fits.{Call, call_of, entry_numbers, IsConsistent, FitsBy}
@@ -30,7 +32,6 @@ use Rattle.deriv_tree.specs.Shape.{IsWhole}
 use Rattle.deriv_tree.specs.declared.tree.Derivation.{Derivation}
 use Rattle.bed_syntax.specs.Shape.{cmd_size, cmd_size_step}
 use Rattle.bed_syntax.specs.Tables.{cmd_tables, cmd_tables_step}
-use Rattle.bed_syntax.specs.Weight.{cmd_weight, cmd_weight_step}
 use Rattle.bed_syntax.specs.declared.weights.Weights.{Weights}
 use Rattle.bed_syntax.specs.declared.weights.TheConstants as weights
 use Rattle.bed_syntax.specs.declared.command.Cmd.{Cmd}
@@ -49,13 +50,14 @@ use Rattle.model_command.specs.Computes.{Computes, Starts, Ends}
 use Rattle.model_command.specs.Measures.{IsMeasured, IsSmall}
 use Rattle.replayer.specs.declared.checked.Checked.{Checked}
 use Rattle.replayer.specs.Ends.{are_named, are_kept}
-use Rattle.replayer.specs.Replayed.{ask, instance, command_of, weight_of, bound_of, measured, most_slots, few_slots, bounded, sized, slots_of, checked, limited, replayed}
+use Rattle.replayer.specs.Replayed.{ask, instance, command_of, weight_of, measured, most_slots, few_slots, sized, slots_of, checked, limited, replayed}
+use Rattle.replayer.specs.Bounds.{Poly, bound}
 use Rattle.replayer.proofs.Answered.{both_answered, rules_gave, need_holds, yielded, if_answered}
-use Rattle.replayer.proofs.Costs.{cost_below}
+use Rattle.replayer.proofs.Costs.{are_entries, bound_above}
 use Rattle.replayer.proofs.Memory.{others_same}
 use Rattle.replayer.proofs.Results.{results_hold}
 use Rattle.replayer.proofs.Rooms.{has_room}
-use Rattle.replayer.proofs.Taken.{parts_of, few_registers, few_rets}
+use Rattle.replayer.proofs.Taken.{parts_of, few_registers, few_entries, few_rets}
 
 abbrev w : Weights
 w = weights.Weights.LARGE
@@ -102,44 +104,26 @@ small_enough weight most u is = by (nat_le (4 * weight) most) refl is where
   by true few is = leb-true (4 * weight) most few
   by false few is = absurd (let bad : (if false then Ok tt else Err (OverSize (4 * weight))) ≡ Ok u = rw few at is in let worse : Err (OverSize (4 * weight)) ≡ Ok u = bad in cc)
 
-bound_there : (at n : ℕ) (o : Option (List Term)) (bound : List Term) → bounded at n o ≡ Ok bound → o ≡ Some bound
-bound_there at n (Some p) bound is = let same_one : p ≡ bound = cc in ap Some same_one
-bound_there at n None bound is = absurd (let bad : Err (OverBound at 0 n) ≡ Ok bound = is in cc)
-
--- a bound of one number
-pub record IsConstant (n : ℕ) (bound : List Term) : Type 0 where
-  pub is : bound ≡ make None None n ∷ []
-  pub small : n ≤ greatest_coefficient
-
-constant_is : (n : ℕ) (bound : List Term) → 1 ≤ n → term None None n ≡ Some bound → IsConstant n bound
-constant_is n bound some is = by (nat_le n greatest_coefficient) refl (nat_eq n 0) refl where
-  by : (a : Bool) → nat_le n greatest_coefficient ≡ a → (b : Bool) → nat_eq n 0 ≡ b → IsConstant n bound
-  by true few false more =
-      let here : Some (make None None n ∷ []) ≡ Some bound = rw (few, more) at is in
-      record { is = (let same_one : make None None n ∷ [] ≡ bound = cc in sym same_one); small = leb-true n greatest_coefficient few }
-  by true few true none = absurd (let zero_is : n ≡ 0 = eqb-true n 0 none in omega (arith, some, zero_is))
-  by false few b more = absurd (let bad : (if false then Some (if nat_eq n 0 then [] else make None None n ∷ []) else None) ≡ Some bound = rw few at is in let worse : None ≡ Some bound = bad in cc)
-
 -- what is within the limits
-pub record Limited (m : Model) (nodes most : ℕ) (out : StmtOut) (after : Context) (answer : Checked) : Type 0 where
-  pub bound : List Term
+pub record Limited (m : Model) (d : Derivation) (most : ℕ) (out : StmtOut) (after : Context) (answer : Checked) : Type 0 where
+  pub most_steps : Poly
   pub slots : slots_of m out after ≤ 400
-  pub bound_is : bound_of out ≡ Some bound
+  pub bound_is : bound w d out.cmds out.trips ≡ Ok most_steps
   pub light : 4 * weight_of out ≤ most
-  pub is : checked m nodes out after bound ≡ answer
+  pub is : checked m d out after most_steps ≡ answer
 
-within_limits : (m : Model) (nodes most : ℕ) (out : StmtOut) (after : Context) (answer : Checked) → limited m nodes most out after ≡ Ok answer → Limited m nodes most out after answer
-within_limits m nodes most out after answer is =
+within_limits : (m : Model) (d : Derivation) (most : ℕ) (out : StmtOut) (after : Context) (answer : Checked) → limited m d most out after ≡ Ok answer → Limited m d most out after answer
+within_limits m d most out after answer is =
     let one = both_answered (few_slots (slots_of m out after)) _ answer is in
-    let two = both_answered (bounded nodes (weight_of out) (bound_of out)) _ answer one.1.1 in
+    let two = both_answered (bound w d out.cmds out.trips) _ answer one.1.1 in
     let three = both_answered (sized (weight_of out) most) _ answer two.1.1 in
-    let last : Ok (checked m nodes out after two.0) ≡ Ok answer = three.1.1 in
+    let last : Ok (checked m d out after two.0) ≡ Ok answer = three.1.1 in
     record {
-      bound = two.0;
+      most_steps = two.0;
       slots = few_enough (slots_of m out after) one.0 one.1.0;
-      bound_is = bound_there nodes (weight_of out) (bound_of out) two.0 two.1.0;
+      bound_is = two.1.0;
       light = small_enough (weight_of out) most three.0 three.1.0;
-      is = (let same_one : checked m nodes out after two.0 ≡ answer = cc in same_one);
+      is = (let same_one : checked m d out after two.0 ≡ answer = cc in same_one);
     }
 
 -- What is promised of the answer.
@@ -159,35 +143,13 @@ body_formed m formed =
     let three = and_parts (facts_formed m.requires_) _ two.1 in
     (and_parts (all_true (map stmt_formed m.body)) (all_true (map ret_formed m.rets)) three.1).0
 
-module _ (m : Model) (well : types.Well m) (out : StmtOut) (after : Context) (bound : List Term) (bound_is : bound_of out ≡ Some bound) where
+module _ (m : Model) (well : types.Well m) (d : Derivation) (out : StmtOut) (after : Context) (most_steps : Poly) (bound_is : bound w d out.cmds out.trips ≡ Ok most_steps) where
   abbrev command : Cmd
   command = command_of out
 
-  weight_is : cmd_weight w command ≡ sum (map (cmd_weight w) out.cmds)
-  weight_is = fold_seq ℕ (cmd_weight_step w) out.cmds
-
-  entry_is : w.entry ≡ 48
-  entry_is = refl
-
-  constant : IsConstant (weight_of out) bound
-  constant = constant_is (weight_of out) bound (omega (arith, entry_is)) bound_is
-
-  -- no number of a symbol changes it
-  bound_value : (numbers : List ℕ) → at numbers bound ≡ weight_of out
-  bound_value numbers = ap (at numbers) constant.is ∙ omega arith
-
-  pub measured_right : IsMeasured w m (measured m out after bound)
-  measured_right = record {
-    args = refl;
-    weight = refl;
-    locals = refl;
-    depth = refl;
-    symbols = rw constant.is (tt, omega arith, omega (arith, entry_is), constant.small, tt);
-  }
-
   pub small_right : (most nodes : ℕ) → most ≤ 1000000 → slots_of m out after ≤ 400 → 4 * weight_of out ≤ most → nodes ≤ 20000
       → sum (map cmd_size out.cmds) ≤ 20 * nodes → length (joined (map cmd_tables out.cmds)) < 20000
-      → sum (map length (joined (map cmd_tables out.cmds))) ≤ 65536 → IsSmall (measured m out after bound)
+      → sum (map length (joined (map cmd_tables out.cmds))) ≤ 65536 → IsSmall (measured m out after most_steps)
   small_right most nodes most_few slots light few size tables bytes =
       let size_is : cmd_size command ≡ 1 + sum (map cmd_size out.cmds) = fold_seq ℕ cmd_size_step out.cmds in
       let tables_are : cmd_tables command ≡ joined (map cmd_tables out.cmds) = fold_seq (List (List ℕ)) cmd_tables_step out.cmds in
@@ -201,7 +163,23 @@ module _ (m : Model) (well : types.Well m) (out : StmtOut) (after : Context) (bo
         light = omega (arith, light, most_few);
       }
 
-  module _ (done : IsConsistent (start m) → StmtDone m.params (parts_of m well).end_.1 (model.in_turn (map model.run m.body)) (start m) out after) (no_loops : out.trips ≡ [])
+  -- each trip form is over the entry symbols
+  abbrev pub OverEntries : Type 0
+  OverEntries = are_entries (length (entry_names m.params)) out.trips ≡ true
+
+  above : OverEntries → (call : Call) → BoundFrom 0 (length (entry_names m.params)) most_steps × ((cost_all w call out.cmds out.trips).0 + w.entry ≤ at call.entries most_steps)
+  above entries call = bound_above w call (length (entry_names m.params)) (few_entries m well) d out.cmds out.trips most_steps entries bound_is
+
+  pub measured_right : OverEntries → IsMeasured w m (measured m out after most_steps)
+  measured_right entries = record {
+    args = refl;
+    weight = refl;
+    locals = refl;
+    depth = refl;
+    symbols = (above entries (call_of m [] (λ n. n))).0;
+  }
+
+  module _ (formed : model_formed m ≡ true) (done : IsConsistent (start m) → StmtDone m.params (parts_of m well).scope (parts_of m well).end_.1 (model.in_turn (map model.run m.body)) (start m) out after) (entries : OverEntries)
       (named : are_named m.params m.rets after ≡ true) (kept : are_kept m.params m.rets after ≡ true) (starts_fit : StartFits) where
     module _ (args : List Arg) (meets : model.Meets m args) (pointers : ℕ → ℕ) (mem : Bytes) (vars : Vars) (starts : Starts m command args pointers mem vars) where
       abbrev call : Call
@@ -213,7 +191,7 @@ module _ (m : Model) (well : types.Well m) (out : StmtOut) (after : Context) (bo
       fits : FitsBy call (numbers_of call) (start m) env mem (local_at vars)
       fits = (starts_fit m well args meets pointers mem (local_at vars) starts.arguments starts.apart).0
 
-      sem : StmtDone m.params (parts_of m well).end_.1 (model.in_turn (map model.run m.body)) (start m) out after
+      sem : StmtDone m.params (parts_of m well).scope (parts_of m well).end_.1 (model.in_turn (map model.run m.body)) (start m) out after
       sem = done fits.consistent
 
       room : all_below (length vars) out.cmds ≡ true
@@ -221,22 +199,22 @@ module _ (m : Model) (well : types.Well m) (out : StmtOut) (after : Context) (bo
           sym (fold_seq Bool (sets_below_step (length vars)) out.cmds)
           ∙ has_room (length vars) command [] starts.room
 
+      -- each parameter's name has a value of its type
+      values : (lengths : Name → ℕ) × IsTyped lengths (parts_of m well).scope env
+      values = starts_typed m args (parts_of m well).scope formed (parts_of m well).declared meets
+
       ran : StmtRan w call (model.in_turn (map model.run m.body)) (start m) out after (numbers_of call) env mem vars
-      ran = sem.runs w call (numbers_of call) env mem vars fits room
+      ran = sem.runs values.0 w call (numbers_of call) env mem vars values.1 fits room
 
       run : Runs w (One command) mem vars ran.left_mem ran.left ran.ticks
       run =
           subst (λ (p : Cmd). Runs w (One p) mem vars ran.left_mem ran.left ran.ticks) (cmd.rolls-Seq out.cmds)
           (seqs out.cmds ran.ticks mem ran.left_mem vars ran.left ran.runs)
 
-      in_time : ran.ticks + w.entry ≤ weight_of out
-      in_time =
-          let time = ran.time in
-          let same_cost : (cost_all w call out.cmds out.trips).0 ≡ (cost_all w call out.cmds []).0 = ap (λ ts. (cost_all w call out.cmds ts).0) no_loops in
-          let below = cost_below w call out.cmds in
-          omega (arith, time, same_cost, below, weight_is)
+      in_time : ran.ticks + w.entry ≤ at (entry_numbers m.params args) most_steps
+      in_time = (let time = ran.time in let most = (above entries call).1 in omega (arith, time, most))
 
-      ends : Ends w m (measured m out after bound) args pointers mem vars
+      ends : Ends w m (measured m out after most_steps) args pointers mem vars
       ends =
           let fuel = fuel_of_run w command mem vars ran.left_mem ran.left ran.ticks run in
           record {
@@ -245,22 +223,22 @@ module _ (m : Model) (well : types.Well m) (out : StmtOut) (after : Context) (bo
             after_mem = ran.left_mem;
             after_vars = ran.left;
             runs = fuel.1 fuel.0 (omega arith);
-            in_time = (let value = bound_value (entry_numbers m.params args) in omega (arith, in_time, value));
+            in_time = in_time;
             has_results = results_hold m.params (parts_of m well).scope (parts_of m well).end_.1 call ran.others after (model.end_of m args) ran.left_mem (local_at ran.left)
                 ran.fits sem.scoped 0 [] m.rets (parts_of m well).results named;
             others = others_same m.params m.rets call (numbers_of call) ran.others (start m) after env (model.end_of m args) mem ran.left_mem (local_at vars) (local_at ran.left)
                 fits ran.fits sem.moves ran.unwritten kept ran.outside;
           }
 
-    pub computes_right : Computes w m (measured m out after bound)
+    pub computes_right : Computes w m (measured m out after most_steps)
     computes_right = λ args meets pointers mem vars starts. ends args meets pointers mem vars starts
 
 -- Few commands.
 
 commands_small : CommandsAreSmall → (turn : Turn) → Laws turn → (m : Model) → Spellable m → (d : Derivation) → (out : StmtOut) (after : Context) → Derived turn m d out after
-    → AreSmall d.body m.body out
+    → AreSmall d.body m.body (start m).entries out
 commands_small small turn laws m spelled d out after is =
-    yielded (λ o a. AreSmall d.body m.body o) ((block_judged turn d.body).row 0 (size d) 4 m.body (start m)) (out, after)
+    yielded (λ o a. AreSmall d.body m.body (start m).entries o) ((block_judged turn d.body).row 0 (size d) 4 m.body (start m)) (out, after)
     (small turn laws d.body 0 (size d) 4 m.body (start m) spelled) is.row
 
 pub few_commands : CommandsAreSmall → (turn : Turn) → Laws turn → (m : Model) → Spellable m → (d : Derivation) → IsWhole d → (begin : Context) → begin ≡ start m
@@ -282,10 +260,10 @@ module _ (below : Below) (turn : Turn) (laws : Laws turn) (m : Model) (well : ty
     (whole : IsWhole d) where
   -- what the nodes give does what the statements do
   done_right : (out : StmtOut) (after : Context) → Derived turn m d out after → IsConsistent (start m)
-      → StmtDone m.params (parts_of m well).end_.1 (model.in_turn (map model.run m.body)) (start m) out after
+      → StmtDone m.params (parts_of m well).scope (parts_of m well).end_.1 (model.in_turn (map model.run m.body)) (start m) out after
   done_right out after is consistent =
       let parts = parts_of m well in
-      yielded (StmtDone m.params parts.end_.1 (model.in_turn (map model.run m.body)) (start m)) ((block_judged turn d.body).row 0 (size d) 4 m.body (start m)) (out, after)
+      yielded (StmtDone m.params parts.scope parts.end_.1 (model.in_turn (map model.run m.body)) (start m)) ((block_judged turn d.body).row 0 (size d) 4 m.body (start m)) (out, after)
       (below.sound turn laws d.body 0 (size d) 4 m.body m.params parts.scope 0 parts.end_ (start m) consistent (below.start_scoped m well parts.scope parts.declared)
       (body_formed m formed) spelled parts.typed)
       is.row
@@ -296,13 +274,15 @@ module _ (below : Below) (turn : Turn) (laws : Laws turn) (m : Model) (well : ty
       let out : StmtOut = both.0.0 in
       let after : Context = both.0.1 in
       let inst : Derived turn m d out after = derived turn m d out after both.1.0 in
-      let limits = within_limits m (size d) most out after answer both.1.1 in
+      let limits = within_limits m d most out after answer both.1.1 in
       let size = commands_small below.small turn laws m spelled d out after inst in
+      let begun = below.start_scoped m well (parts_of m well).scope (parts_of m well).declared in
+      let entries : are_entries (length (entry_names m.params)) out.trips ≡ true = subst (λ (n : ℕ). are_entries n out.trips ≡ true) begun.entries size.entries in
       subst (Fulfils m) limits.is
       record {
-        computes = computes_right m well out after limits.bound limits.bound_is (done_right out after inst) size.no_loops inst.named inst.kept below.starts_fit;
-        measured = measured_right m well out after limits.bound limits.bound_is;
-        small = small_right m well out after limits.bound limits.bound_is most (block_size d.body) few limits.slots limits.light whole.small size.size
+        computes = computes_right m well d out after limits.most_steps limits.bound_is formed (done_right out after inst) entries inst.named inst.kept below.starts_fit;
+        measured = measured_right m well d out after limits.most_steps limits.bound_is entries;
+        small = small_right m well d out after limits.most_steps limits.bound_is most (block_size d.body) few limits.slots limits.light whole.small size.size
             (omega (arith, size.tables, whole.small)) (omega (arith, size.table_bytes, within.small_tables));
       }
 

@@ -4,4 +4,5 @@ mod Fulfilled
 mod Memory
 mod Results
 mod Rooms
+mod Split
 mod Taken

@@ -5,6 +5,7 @@ use Rattle.std.proofs.lemmas.List.{length-append}
 use Rattle.rup_base.specs.declared.refusal.TypePlace.TheVariants.{Params, Return}
 use Rattle.rup_base.specs.declared.refusal.TypeWhy.{TypeWhy}
 use Rattle.rup_base.specs.declared.refusal.TypeWhy.TheVariants as why
+use Rattle.model_syntax.specs.Entries.{entry_names}
 use Rattle.model_syntax.specs.Limits.{next}
 use Rattle.model_syntax.specs.Names.{Name}
 use Rattle.model_syntax.specs.Scope.{Scope, bind, look_up, scalar_in}
@@ -90,6 +91,19 @@ params_take (p ∷ ps) c end_ few is =
 pub few_registers : (m : Model) → types.Well m → registers m.params ≤ 8
 few_registers m well =
     omega (arith, params_take m.params [] (parts_of m well).scope (omega arith) (parts_of m well).declared)
+
+-- each entry symbol has a register
+entries_take : (ps : List Param) → length (entry_names ps) ≤ registers ps
+entries_take [] = omega arith
+entries_take (param.Word x ∷ ps) = (let rest = entries_take ps in omega (arith, rest))
+entries_take (param.Byte x ∷ ps) = (let rest = entries_take ps in omega (arith, rest))
+entries_take (param.Bytes a (Fixed n) ∷ ps) = (let rest = entries_take ps in omega (arith, rest))
+entries_take (param.Bytes a (Named x) ∷ ps) = (let rest = entries_take ps in omega (arith, rest))
+entries_take (param.Words a (Fixed n) ∷ ps) = (let rest = entries_take ps in omega (arith, rest))
+entries_take (param.Words a (Named x) ∷ ps) = (let rest = entries_take ps in omega (arith, rest))
+
+pub few_entries : (m : Model) → types.Well m → length (entry_names m.params) ≤ 8
+few_entries m well = omega (arith, entries_take m.params, few_registers m well)
 
 -- Results.
 

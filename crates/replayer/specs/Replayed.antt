@@ -1,12 +1,10 @@
 -- What a derivation of a model comes to: the command with its measures, or the first refusal. First each node has to be an
 -- instance of its rule and the conditions of the end have to hold; then come the limits on locals, on the bound and on the size
 -- of the code.
-use Rattle.std.specs.Prelude.{ℕ, ◌+◌, ◌*◌, nat_le, Bool, List, length, Option, Some, None, Result, Ok, Err, if◌then◌else◌}
+use Rattle.std.specs.Prelude.{ℕ, ◌+◌, ◌*◌, nat_le, Bool, length, Result, Ok, Err, if◌then◌else◌}
 use Rattle.rup_base.specs.Answers.{and_then}
 use Rattle.rup_base.specs.declared.refusal.Refusal.{Refusal}
-use Rattle.rup_base.specs.declared.refusal.Refusal.TheVariants.{OverSlots, OverBound, OverSize}
-use Rattle.cost_poly.specs.declared.term.Term.{Term}
-use Rattle.cost_poly.specs.Polynomial.{term}
+use Rattle.rup_base.specs.declared.refusal.Refusal.TheVariants.{OverSlots, OverSize}
 use Rattle.model_syntax.specs.declared.program.Model.{Model}
 use Rattle.model_syntax.specs.Names.{same}
 use Rattle.sym_heap.specs.Context.{Context}
@@ -24,6 +22,7 @@ use Rattle.stmt_rules.specs.declared.output.StmtOut.{StmtOut}
 use Rattle.stmt_rules.specs.Row.{block_judged}
 use Rattle.model_command.specs.declared.command.ModelCommand.{ModelCommand}
 use Rattle.replayer.specs.declared.checked.Checked.{Checked}
+use Rattle.replayer.specs.Bounds.{Poly, bound}
 use Rattle.replayer.specs.Ends.{are_named, are_kept, rets_of}
 
 -- Instances.
@@ -51,17 +50,13 @@ command_of out = cmd.Seq out.cmds
 abbrev pub weight_of : StmtOut → ℕ
 weight_of out = cmd_weight weights.Weights.LARGE (command_of out) + weights.Weights.LARGE.entry
 
--- The most steps: no rule gives a loop or a conditional yet, so each node counts once, whatever the arguments.
-abbrev pub bound_of : StmtOut → Option (List Term)
-bound_of out = term None None (weight_of out)
-
 -- the command with what is measured of it
-abbrev pub measured : Model → StmtOut → Context → List Term → ModelCommand
-measured m out after bound = record {
+abbrev pub measured : Model → StmtOut → Context → Poly → ModelCommand
+measured m out after most_steps = record {
   command = command_of out;
   args = registers m.params;
   rets = rets_of after m.rets;
-  bound = bound;
+  bound = most_steps;
   weight = weight_of out;
   locals = length (locals_of (command_of out) (registers m.params) (rets_of after m.rets));
   depth = cmd_depth (command_of out);
@@ -76,11 +71,6 @@ most_slots = 400
 abbrev pub few_slots : ℕ → Result (Unit {0}) Refusal
 few_slots n = if nat_le n most_slots then Ok tt else Err (OverSlots n)
 
--- a bound of this greatest number, at the end of the derivation; it passes no limit or its number is refused
-abbrev pub bounded : ℕ → ℕ → Option (List Term) → Result (List Term) Refusal
-bounded at n (Some bound) = Ok bound
-bounded at n None = Err (OverBound at 0 n)
-
 -- an instruction has four bytes, and there are at most as many as the weight
 abbrev pub sized : ℕ → ℕ → Result (Unit {0}) Refusal
 sized weight most = if nat_le (4 * weight) most then Ok tt else Err (OverSize (4 * weight))
@@ -88,16 +78,16 @@ sized weight most = if nat_le (4 * weight) most then Ok tt else Err (OverSize (4
 abbrev pub slots_of : Model → StmtOut → Context → ℕ
 slots_of m out after = length (locals_of (command_of out) (registers m.params) (rets_of after m.rets)) + cmd_depth (command_of out)
 
-abbrev pub checked : Model → ℕ → StmtOut → Context → List Term → Checked
-checked m nodes out after bound = record { command = measured m out after bound; nodes = nodes }
+abbrev pub checked : Model → Derivation → StmtOut → Context → Poly → Checked
+checked m d out after most_steps = record { command = measured m out after most_steps; nodes = size d }
 
 -- what the nodes give, within the limits
-abbrev pub limited : Model → ℕ → ℕ → StmtOut → Context → Result Checked Refusal
-limited m nodes most out after =
+abbrev pub limited : Model → Derivation → ℕ → StmtOut → Context → Result Checked Refusal
+limited m d most out after =
     and_then (few_slots (slots_of m out after)) (λ few.
-    and_then (bounded nodes (weight_of out) (bound_of out)) (λ bound.
-    and_then (sized (weight_of out) most) (λ small. Ok (checked m nodes out after bound))))
+    and_then (bound weights.Weights.LARGE d out.cmds out.trips) (λ most_steps.
+    and_then (sized (weight_of out) most) (λ small. Ok (checked m d out after most_steps))))
 
 -- the whole check, with the most bytes of code
 abbrev pub replayed : Turn → Model → Derivation → ℕ → Result Checked Refusal
-replayed turn m d most = and_then (instance turn m d (start m)) (λ both. limited m (size d) most both.0 both.1)
+replayed turn m d most = and_then (instance turn m d (start m)) (λ both. limited m d most both.0 both.1)

@@ -1,7 +1,8 @@
 //! Whether a derivation is an instance: each node of its rule, and the conditions of the end.
-ghost use Rattle.std.specs.Prelude.{◌≤◌, length};
+ghost use Rattle.std.specs.Prelude.{◌≡◌, ◌≤◌, true, length};
 ghost use Rattle.rup_base.specs.Answers.{AnswersWith};
 ghost use Rattle.deriv_tree.specs.Shape.{IsWhole};
+ghost use Rattle.stmt_rules.specs.Narrow.{are_narrow};
 ghost use Rattle.replayer.specs.Replayed as spec;
 
 use crate::ends::{are_kept, are_named};
@@ -32,6 +33,7 @@ pub fn instance<B: Book>(
 ) -> Result<StmtOut, Fail>
     requires whole { IsWhole d.now }
     requires few { length m.now.params ≤ 8 }
+    requires narrow { are_narrow m.now.body ≡ true }
     ensures { AnswersWith result ctx.new (spec.instance (B.turn book.now) m.now d.now ctx.old) }
 {
     need(d.model == m.name, 0, 0)?;

@@ -2,11 +2,13 @@
 //! computes the model. Nothing rests on where a derivation comes from.
 #![tactic(auto)]
 
+mod bounds;
 mod checked;
-mod ends;
+pub mod ends;
 mod instance;
 mod limits;
 mod replaying;
+mod sizes;
 mod weights;
 
 pub use checked::Checked;

@@ -1,17 +1,19 @@
 //! The limits on what a derivation derives, and what is measured of its command.
-ghost use Rattle.std.specs.Prelude.{◌≡◌, ◌+◌, ◌*◌, ◌≤◌, [], length, map, sum, None, IfOk};
+ghost use Rattle.std.specs.Prelude.{◌≡◌, ◌+◌, ◌*◌, ◌≤◌, [], length, map, sum, IfOk};
 ghost use Rattle.rup_base.specs.Answers.{Answers};
-ghost use Rattle.cost_poly.specs.Polynomial.{term};
 ghost use Rattle.bed_syntax.specs.Shape.{cmd_size};
 ghost use Rattle.sym_heap.specs.Start.{length_registers, registers, registers_of};
+ghost use Rattle.deriv_tree.specs.Shape.{IsWhole};
 ghost use Rattle.replayer.specs.Ends.{rets_of};
 ghost use Rattle.replayer.specs.Replayed as spec;
 
+use crate::bounds::bound;
 use crate::checked::Checked;
 use crate::ends::rets_of;
 use crate::weights::weight_of_cmd;
 use bed_syntax::{Cmd, Weights, depth_of_cmd, locals_of_cmd};
 use cost_poly::Poly;
+use deriv_tree::Derivation;
 use model_command::ModelCommand;
 use model_syntax::{Len, Model, Param};
 use rup_base::{Fail, NoMemory, Refusal};
@@ -29,17 +31,20 @@ pub fn limited(
     m: &Model,
     ctx: &Ctx,
     out: StmtOut,
-    nodes: u32,
+    d: &Derivation,
     most: u32,
 ) -> Result<Checked, Fail>
+    requires whole { IsWhole d.now }
     requires few { registers m.now.params ≤ 8 }
     requires rets { length (rets_of ctx.now m.now.rets) ≤ 2 }
     requires small { sum (map cmd_size out.cmds) ≤ 400_000 }
-    ensures { Answers result (spec.limited m.now nodes most out ctx.now) }
+    ensures { Answers result (spec.limited m.now d.now most out ctx.now) }
 {
+    let nodes = d.size();
+    let steps = bound(d, nodes, out.cmds.as_slice(), out.trips.as_slice());
     let mut command = measured(alloc, m, ctx, out)?;
     few_slots(command.locals + command.depth)?;
-    command.bound = bounded(nodes, command.weight)?;
+    command.bound = steps?;
     sized(command.weight, most)?;
     Ok(Checked { command, nodes })
 }
@@ -86,20 +91,6 @@ fn few_slots(slots: u32) -> Result<(), Fail>
         return Err(Fail::Refused(Refusal::OverSlots { count: slots }));
     }
     Ok(())
-}
-
-/// The bound of a command without loops and conditionals, which no argument changes.
-fn bounded(at: u32, weight: u32) -> Result<Poly, Fail>
-    ensures { Answers result (spec.bounded at weight (term None None weight)) }
-{
-    match Poly::term(None, None, u64::from(weight)) {
-        Some(bound) => Ok(bound),
-        None => Err(Fail::Refused(Refusal::OverBound {
-            node: at,
-            degree: 0,
-            coefficient: u128::from(weight),
-        })),
-    }
 }
 
 /// There are at most as many instructions as the weight, of four bytes each.

@@ -48,7 +48,7 @@ pub fn replay<B: Book>(
 }
 
 /// The check itself.
-#[tactic(auto, using(crate::proofs::Taken::few_registers, crate::proofs::Taken::few_rets, model_syntax::proofs::laws::Parameters::few_params))]
+#[tactic(auto, using(crate::proofs::Taken::few_registers, crate::proofs::Taken::few_rets, model_syntax::proofs::laws::Parameters::few_params, stmt_rules::proofs::laws::Narrow::model_narrow))]
 fn check<B: Book>(
     alloc: Global,
     m: &Model,
@@ -65,5 +65,5 @@ fn check<B: Book>(
     commands_are_small();
     let mut ctx = Ctx::start(alloc, m)?;
     let out = instance(&mut ctx, m, d, book)?;
-    limited(alloc, m, &ctx, out, d.size(), most)
+    limited(alloc, m, &ctx, out, d, most)
 }

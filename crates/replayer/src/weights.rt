@@ -6,7 +6,7 @@ ghost use Rattle.bed_syntax.specs.Weight as spec;
 use bed_syntax::{BExpr, Cmd, Weights};
 
 /// The weights of an expression's nodes.
-fn weight_of_expr(e: &BExpr) -> u32
+pub fn weight_of_expr(e: &BExpr) -> u32
     requires { expr_size e.now < 2 ^ 28 }
     ensures weight { result ≡ spec.expr_weight Weights.LARGE e.now }
     ensures bounded { result ≤ 8 * expr_size e.now }

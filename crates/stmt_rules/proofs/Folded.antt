@@ -56,10 +56,13 @@ pub block_size_sum : (turn : Turn) (b : Block) → (block_judged turn b).size �
 block_size_sum turn b = rw (block_open turn b) refl
 
 -- the number of nodes, from those of the kids and of the blocks
+pub judged_size : (turn : Turn) (n : StmtNode) → (judged turn n).size ≡ 1 + sizes (map (expr.judged turn) (out-StmtNode n).kids) + block_sizes (map (block_judged turn) (out-StmtNode n).blocks)
+judged_size turn n = rw (stmt_open turn n) refl
+
 pub judged_counted : (turn : Turn) (n : StmtNode) (next after : ℕ) (result : Result StmtOut Fail)
     → OnOk result (after ≡ next + 1 + sizes (map (expr.judged turn) (out-StmtNode n).kids) + block_sizes (map (block_judged turn) (out-StmtNode n).blocks))
     → OnOk result (after ≡ next + (judged turn n).size)
 judged_counted turn n next after (Ok out) is =
-    let size : (judged turn n).size ≡ 1 + sizes (map (expr.judged turn) (out-StmtNode n).kids) + block_sizes (map (block_judged turn) (out-StmtNode n).blocks) = rw (stmt_open turn n) refl in
+    let size = judged_size turn n in
     omega (arith, is, size)
 judged_counted turn n next after (Err f) is = tt

@@ -25,7 +25,7 @@ use Rattle.stmt_rules.specs.Words.{joined}
 -- Lists.
 
 -- what a list costs before another
-costs_append : (w : Weights) (call : Call) (cs ds : List Cmd) (ts : List LinearForm)
+pub costs_append : (w : Weights) (call : Call) (cs ds : List Cmd) (ts : List LinearForm)
     → cost_all w call (cs ++ ds) ts ≡ ((cost_all w call cs ts).0 + (cost_all w call ds (cost_all w call cs ts).1).0, (cost_all w call ds (cost_all w call cs ts).1).1)
 costs_append w call [] ds ts =
     let none : 0 + (cost_all w call ds ts).0 ≡ (cost_all w call ds ts).0 = omega arith in
@@ -40,7 +40,7 @@ pub and_parts : (a b : Bool) → (a && b) ≡ true → (a ≡ true) × (b ≡ tr
 and_parts true b e = (refl, e)
 and_parts false b e = absurd (let bad : false ≡ true = e in cc)
 
-below_parts : (n : ℕ) (cs ds : List Cmd) → all_below n (cs ++ ds) ≡ true → (all_below n cs ≡ true) × (all_below n ds ≡ true)
+pub below_parts : (n : ℕ) (cs ds : List Cmd) → all_below n (cs ++ ds) ≡ true → (all_below n cs ≡ true) × (all_below n ds ≡ true)
 below_parts n [] ds e = (refl, e)
 below_parts n (c ∷ cs) ds e =
     let p = and_parts (sets_below n c) (all_below n (cs ++ ds)) e in
@@ -49,7 +49,7 @@ below_parts n (c ∷ cs) ds e =
 
 -- The part after a first part.
 
-module _ (ps : List Param) (one two : Scope) (f g : Env → Env) (before mid after : Context) (p q : StmtOut) (first : StmtDone ps one f before p mid) (second : StmtDone ps two g mid q after) where
+module _ (ps : List Param) (start one two : Scope) (f g : Env → Env) (before mid after : Context) (p q : StmtOut) (first : StmtDone ps start one f before p mid) (second : StmtDone ps one two g mid q after) where
   many : (w : Weights) (call : Call) (rest : List LinearForm)
       → cost_all w call (p.cmds ++ q.cmds) (p.trips ++ (q.trips ++ rest)) ≡ ((cost_all w call p.cmds p.trips).0 + (cost_all w call q.cmds q.trips).0, rest)
   many w call rest =
@@ -95,17 +95,18 @@ module _ (ps : List Param) (one two : Scope) (f g : Env → Env) (before mid aft
         out i m.clause m.at (subst (λ (n : ℕ). Within (range_of call n) address) m.same_one.param within)
 
   -- one after the other, what is right stays so
-  pub seq_done : StmtDone ps two (λ env. g (f env)) before (joined p q) after
+  pub seq_done : StmtDone ps start two (λ env. g (f env)) before (joined p q) after
   seq_done = record {
     moves = moves_on before mid after first.moves second.moves;
     consistent = second.consistent;
     scoped = second.scoped;
+    typed = λ lengths env is. second.typed lengths (f env) (first.typed lengths env is);
     trips = λ w call rest. (let shape : p.trips ++ q.trips ++ rest ≡ p.trips ++ (q.trips ++ rest) = append_assoc p.trips q.trips rest in
         ap (cost_all w call (p.cmds ++ q.cmds)) shape ∙ many w call rest ∙ ap (λ n. (n, rest)) (sym (both_cost w call)));
-    runs = λ w call numbers env mem vars fits room. (
+    runs = λ lengths w call numbers env mem vars is fits room. (
         let parts = below_parts (length vars) p.cmds q.cmds room in
-        let a = first.runs w call numbers env mem vars fits parts.0 in
+        let a = first.runs lengths w call numbers env mem vars is fits parts.0 in
         let count = (shape_of_run w (All p.cmds) mem vars a.left_mem a.left a.ticks a.runs).count in
-        let b = second.runs w call a.others (f env) a.left_mem a.left a.fits (ap (λ n. all_below n q.cmds) count ∙ parts.1) in
+        let b = second.runs lengths w call a.others (f env) a.left_mem a.left (first.typed lengths env is) a.fits (ap (λ n. all_below n q.cmds) count ∙ parts.1) in
         ran w call numbers env mem vars a b);
   }

@@ -13,7 +13,7 @@ use Rattle.expr_rules.specs.Words.{are_none}
 use Rattle.stmt_rules.specs.Row.{StmtJudged, BlockJudged, block_step, judged_step, judged, block_judged}
 use Rattle.stmt_rules.specs.Sound.{AreSound, BlocksAreSound, StatementsAreSound}
 use Rattle.stmt_rules.proofs.Blocks.{IsSoundNode, SoundNodes, block_sound}
-use Rattle.stmt_rules.proofs.sound.Node.{SoundKids, row_sound}
+use Rattle.stmt_rules.proofs.sound.Node.{SoundKids, SoundBlocks, row_sound}
 use Rattle.stmt_rules.proofs.sound.Note.{note_sound}
 
 module _ (turn : Turn) (exprs : (node : ExprNode) (at : ℕ) (e : Expr) → IsSound e (expr.row turn node at e)) where
@@ -37,6 +37,10 @@ module _ (turn : Turn) (exprs : (node : ExprNode) (at : ℕ) (e : Expr) → IsSo
   nodes_sound [] = tt
   nodes_sound (y ∷ ys) = (y.1, nodes_sound ys)
 
+  blocks_sound : (ys : List InBlock) → SoundBlocks (map (block_judged turn) (map (λ p. p.0) ys))
+  blocks_sound [] = tt
+  blocks_sound (y ∷ ys) = (y.1, blocks_sound ys)
+
   block_in_step : (y : Block-F InBlock InStmt) → BlockIn (roll-Block (map-Block InBlock InStmt Block StmtNode (λ b. b.0) (λ n. n.0) y))
   block_in_step y =
       let x : Block-F Block StmtNode = map-Block InBlock InStmt Block StmtNode (λ b. b.0) (λ n. n.0) y in
@@ -48,7 +52,7 @@ module _ (turn : Turn) (exprs : (node : ExprNode) (at : ℕ) (e : Expr) → IsSo
       let x : StmtNode-F Block StmtNode = map-StmtNode InBlock InStmt Block StmtNode (λ b. b.0) (λ n. n.0) y in
       rw (fold-roll-StmtNode BlockJudged StmtJudged block_step (judged_step turn) x) (record {
         note = λ at. note_sound x.step (are_none x.kids && are_none (map (block_judged turn) x.blocks)) at;
-        statement = λ at t. row_sound x.step (map (expr.judged turn) x.kids) (map (block_judged turn) x.blocks) (kids_sound x.kids) at t;
+        statement = λ at t. row_sound x.step (map (expr.judged turn) x.kids) (map (block_judged turn) x.blocks) (kids_sound x.kids) (blocks_sound y.blocks) at t;
       })
 
   block_in : (b : Block) → BlockIn b

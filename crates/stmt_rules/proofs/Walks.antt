@@ -54,3 +54,9 @@ module _ (turn : Turn) (ns : List StmtNode) (n : StmtNode) (long : 1 ≤ length 
       sym (ap (λ l. walk owner cond (map (judged turn) l) at ts out c) (split_first ns n long is)
       ∙ ap (λ l. walk owner cond (judged turn n ∷ map (judged turn) nodes_left) at l out c) (split_first ts t many first)
       ∙ statement_goes owner cond (judged turn n) (map (judged turn) nodes_left) at out c t (take (length ts - 1) (drop 1 ts)) o d (judged_note turn n ∙ statement) goes)
+
+  pub note_on : (owner cond : ℕ) (ts : List Stmt) (at : ℕ) (out o : StmtOut) (c d : Context) → is_note (out-StmtNode n).step.rule ≡ true → AnswersWith (Ok o) d ((judged turn n).as_note at c)
+      → walk owner cond (map (judged turn) nodes_left) (at + (judged turn n).size) ts (joined out o) d ≡ walk owner cond (map (judged turn) ns) at ts out c
+  note_on owner cond ts at out o c d note goes =
+      sym (ap (λ l. walk owner cond (map (judged turn) l) at ts out c) (split_first ns n long is)
+      ∙ note_goes owner cond (judged turn n) (map (judged turn) nodes_left) at out c ts o d (judged_note turn n ∙ note) goes)

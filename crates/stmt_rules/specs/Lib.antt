@@ -1,4 +1,7 @@
 pub mod Bound
+pub mod Loops
+pub mod Narrow
+pub mod Nesting
 pub mod Row
 pub mod Small
 pub mod Sound

@@ -3,9 +3,11 @@
 -- within the limits and that there is room for what the rule adds, and from 4 on the rule's own. A rule that is not built is
 -- for no statement.
 use Rattle.std.specs.Prelude.{ℕ, ◌+◌, nat_eq, nat_le, Bool, true, false, ◌&&◌, List, [], ◌∷◌, length, map, sum, if◌then◌else◌}
+use Rattle.expr_rules.specs.rules.Get as get_rule
 use Rattle.model_syntax.specs.Names.{Name}
 use Rattle.model_syntax.specs.declared.expr.Expr.{Expr, out-Expr}
 use Rattle.model_syntax.specs.declared.expr.Scalar.{Scalar}
+use Rattle.model_syntax.specs.declared.stmt.Le.{Le}
 use Rattle.model_syntax.specs.declared.stmt.Stmt.{Stmt, Stmt-F, out-Stmt}
 use Rattle.model_syntax.specs.declared.stmt.Stmt.TheOpen as s
 use Rattle.equations.specs.Book.{Turn}
@@ -19,7 +21,11 @@ use Rattle.expr_rules.specs.Words.{Rule, ◌>>=◌, need, refuse, found, give, c
 use Rattle.expr_rules.specs.Row as expr
 use Rattle.stmt_rules.specs.declared.output.StmtOut.{StmtOut}
 use Rattle.stmt_rules.specs.Words.{nothing, joined, first_local, kind_of}
+use Rattle.stmt_rules.specs.rules.Fold as fold_rule
+use Rattle.stmt_rules.specs.rules.For as for_rule
+use Rattle.stmt_rules.specs.rules.If as if_rule
 use Rattle.stmt_rules.specs.rules.Let as let_rule
+use Rattle.stmt_rules.specs.rules.Map as map_rule
 use Rattle.stmt_rules.specs.rules.Move as move_rule
 use Rattle.stmt_rules.specs.rules.Note as note_rule
 use Rattle.stmt_rules.specs.rules.Put as put_rule
@@ -72,6 +78,10 @@ abbrev pub fits : deriv.Rule → Stmt-F Stmt → Bool
 fits rule.SLet (s.Let x a) = true
 fits rule.SPut (s.Put a i v) = true
 fits rule.SMove (s.Move b a i v) = true
+fits rule.SIf (s.If test names keep first second) = true
+fits rule.SFor (s.For x low high names keep body) = true
+fits rule.SMap (s.Map a x v) = true
+fits rule.SFold (s.Fold t a x v) = true
 fits _ _ = false
 
 -- the type of the expression, by the context
@@ -95,7 +105,7 @@ binding step kids at x a = do
 abbrev pub putting : Step → List Judged → ℕ → Name → Expr → Expr → Rule StmtOut
 putting step kids at a i v = do
   _ ← counted step 0 1 at
-  _ ← put_rule.before at a
+  _ ← get_rule.before at a
   pq ← two_kids kids at i v
   put_rule.after step.certs at a pq.0 pq.1
 
@@ -106,6 +116,49 @@ moving step kids at b a i v = do
   _ ← move_rule.before at a b
   pq ← two_kids kids at i v
   move_rule.after step.certs at a b pq.0 pq.1
+
+-- two blocks
+abbrev pub two_blocks : List BlockJudged → ℕ → Rule (BlockJudged × BlockJudged)
+two_blocks (b ∷ d ∷ []) at = give (b, d)
+two_blocks blocks at = refuse at 1
+
+-- s-if, whose kid is the test. The nodes of the first block follow those of the kid, and then come those of the second; where a
+-- statement of a block has no node, the fault is this node's.
+abbrev pub branching : Step → List Judged → List BlockJudged → ℕ → Expr → List Name → List Le → List Stmt → List Stmt → Rule StmtOut
+branching step kids blocks at test names keep first second = do
+  bd ← two_blocks blocks at
+  _ ← counted step 0 (length keep + length keep) at
+  p ← one_kid kids at test
+  if_rule.after at names keep step.certs p
+      (bd.0.row (at + 1 + sizes kids) at 4 first) (bd.1.row (at + 1 + sizes kids + bd.0.size) at 5 second)
+
+-- one block
+abbrev pub one_block : List BlockJudged → ℕ → Rule BlockJudged
+one_block (b ∷ []) at = give b
+one_block blocks at = refuse at 1
+
+-- s-for, of which one kid is the first bound and one the second, and whose block's nodes follow theirs
+abbrev pub looping : Step → List Judged → List BlockJudged → ℕ → Name → Expr → Expr → List Name → List Le → List Stmt → Rule StmtOut
+looping step kids blocks at x low high names keep body = do
+  b ← one_block blocks at
+  _ ← need (for_rule.counts step (length keep)) at 2
+  k ← for_rule.counter at step.args
+  pq ← two_kids kids at low high
+  for_rule.after at x names keep step.certs k pq.0 pq.1 (b.row (at + 1 + sizes kids) at 5 body)
+
+-- s-map, whose kid is the new element
+abbrev pub mapping : Step → List Judged → ℕ → Name → Name → Expr → Rule StmtOut
+mapping step kids at a x v = do
+  _ ← counted step 3 0 at
+  l ← map_rule.locals at step.args
+  map_rule.row at a x l (one_kid kids at v)
+
+-- s-fold, whose kid is the value of the scalar after an element
+abbrev pub folding : Step → List Judged → ℕ → Name → Name → Name → Expr → Rule StmtOut
+folding step kids at t a x v = do
+  _ ← counted step 4 0 at
+  l ← fold_rule.locals at step.args
+  fold_rule.row at t a x l (one_kid kids at v)
 
 -- a rule that is for the statement
 abbrev pub parts : Step → List Judged → List BlockJudged → ℕ → Stmt-F Stmt → Rule StmtOut
@@ -118,7 +171,14 @@ parts step kids blocks at (s.Put a i v) = do
 parts step kids blocks at (s.Move b a i v) = do
   _ ← no_block blocks at
   moving step kids at b a i v
-parts step kids blocks at _ = refuse at 1
+parts step kids blocks at (s.If test names keep first second) = branching step kids blocks at test names keep first second
+parts step kids blocks at (s.For x low high names keep body) = looping step kids blocks at x low high names keep body
+parts step kids blocks at (s.Map a x v) = do
+  _ ← no_block blocks at
+  mapping step kids at a x v
+parts step kids blocks at (s.Fold t a x v) = do
+  _ ← no_block blocks at
+  folding step kids at t a x v
 
 abbrev pub stmt_row : Step → List Judged → List BlockJudged → ℕ → Stmt → Rule StmtOut
 stmt_row step kids blocks at t = do

@@ -10,7 +10,9 @@ use Rattle.model_syntax.specs.declared.program.Param.{Param}
 use Rattle.model_syntax.specs.Environment.{Env, value_of}
 use Rattle.model_syntax.specs.declared.stmt.Stmt.{Stmt}
 use Rattle.model_syntax.specs.Formed.{stmt_formed}
+use Rattle.model_syntax.specs.Names.{Name}
 use Rattle.model_syntax.specs.Scope.{Scope}
+use Rattle.model_syntax.specs.Sound.{IsTyped}
 use Rattle.model_syntax.specs.Spelling.{stmt_spellable}
 use Rattle.model_syntax.specs.Types as types
 use Rattle.model_syntax.specs.Value.{run, in_turn}
@@ -55,15 +57,18 @@ pub record StmtRan (w : Weights) (call : Call) (sem : Env → Env) (before : Con
   pub outside : (address : ℕ) → IsOutside call before.clauses address → get left_mem address ≡ get mem address
   pub time : ticks ≤ (cost_all w call out.cmds out.trips).0
 
-pub record StmtDone (ps : List Param) (scope : Scope) (sem : Env → Env) (before : Context) (out : StmtOut) (after : Context) : Type 0 where
+pub record StmtDone (ps : List Param) (scope end_scope : Scope) (sem : Env → Env) (before : Context) (out : StmtOut) (after : Context) : Type 0 where
   pub moves : Moves before after
   pub consistent : IsConsistent after
-  pub scoped : IsScoped ps scope after
+  pub scoped : IsScoped ps end_scope after
+  -- names keep values of their types
+  pub typed : (lengths : Name → ℕ) (env : Env) → IsTyped lengths scope env → IsTyped lengths end_scope (sem env)
   -- the commands have as many loops as there are trip forms
   pub trips : (w : Weights) (call : Call) (rest : List LinearForm)
       → cost_all w call out.cmds (out.trips ++ rest) ≡ ((cost_all w call out.cmds out.trips).0, rest)
-  pub runs : (w : Weights) (call : Call) (numbers : ℕ → ℕ) (env : Env) (mem : Bytes) (vars : Vars) → FitsBy call numbers before env mem (local_at vars)
-      → all_below (length vars) out.cmds ≡ true → StmtRan w call sem before out after numbers env mem vars
+  -- where the names in scope have values of their types
+  pub runs : (lengths : Name → ℕ) (w : Weights) (call : Call) (numbers : ℕ → ℕ) (env : Env) (mem : Bytes) (vars : Vars) → IsTyped lengths scope env
+      → FitsBy call numbers before env mem (local_at vars) → all_below (length vars) out.cmds ≡ true → StmtRan w call sem before out after numbers env mem vars
 
 -- a rule for a statement is sound in every context that says of names what a scope does in which the statement is formed,
 -- spellable and well typed
@@ -71,20 +76,20 @@ abbrev pub IsSoundFor : Stmt → Rule StmtOut → Type 0
 IsSoundFor t rule =
     (ps : List Param) (scope : Scope) (k : ℕ) (after : types.State) (before : Context) → IsConsistent before → IsScoped ps scope before
     → stmt_formed t ≡ true → stmt_spellable t ≡ true → types.stmt t (k, scope) ≡ Ok after
-    → Yields (StmtDone ps after.1 (run t) before) (rule before)
+    → Yields (StmtDone ps scope after.1 (run t) before) (rule before)
 
 -- a note is sound in every context
 abbrev pub IsSoundNote : Rule StmtOut → Type 0
 IsSoundNote rule =
     (ps : List Param) (scope : Scope) (before : Context) → IsConsistent before → IsScoped ps scope before
-    → Yields (StmtDone ps scope (λ env. env) before) (rule before)
+    → Yields (StmtDone ps scope scope (λ env. env) before) (rule before)
 
 -- the rows of statements one after another
 abbrev pub AreSound : List Stmt → Rule StmtOut → Type 0
 AreSound ts rule =
     (ps : List Param) (scope : Scope) (k : ℕ) (after : types.State) (before : Context) → IsConsistent before → IsScoped ps scope before
     → all_true (map stmt_formed ts) ≡ true → all_true (map stmt_spellable ts) ≡ true → types.in_turn (map types.stmt ts) (k, scope) ≡ Ok after
-    → Yields (StmtDone ps after.1 (in_turn (map run ts)) before) (rule before)
+    → Yields (StmtDone ps scope after.1 (in_turn (map run ts)) before) (rule before)
 
 -- with the equations of every book, whatever the derivation of a block gives is right
 abbrev pub BlocksAreSound : Type 0

@@ -1,5 +1,9 @@
 -- The rules of statements, a file for each.
+pub mod Fold
+pub mod For
+pub mod If
 pub mod Let
+pub mod Map
 pub mod Move
 pub mod Note
 pub mod Put

@@ -19,8 +19,8 @@ pub fn statements_are_sound()
     instances_are_sound();
 }
 
-/// The commands of a block have at most twenty nodes, and fewer tables than one, for each node of the derivation, no more bytes
-/// of tables than the statements, and no loop.
+/// The commands of a block have at most twenty nodes, and fewer tables than one, for each node of the derivation, and no more
+/// bytes of tables than the statements; the trip forms mention only entry symbols, and have no negative number.
 pub fn commands_are_small()
     ensures { CommandsAreSmall }
 {

@@ -2,14 +2,16 @@
 //! file for each rule, `src/rules/` its code and `proofs/sound/` that it is sound.
 #![tactic(auto)]
 
-mod args;
+pub mod args;
 mod instance;
 pub mod laws;
+pub mod loops;
 mod measure;
+pub mod nesting;
 mod output;
-mod rules;
+pub mod rules;
 
-pub use instance::{block_instance, stmt_instance};
+pub use instance::{block_instance, kind_of, stmt_instance};
 pub use laws::{blocks_are_sound, commands_are_small, statements_are_sound};
 pub use output::StmtOut;
 

@@ -59,7 +59,7 @@ fn all_commands(first: List<Cmd>, next: List<Cmd>) -> Result<List<Cmd>, NoMemory
     Ok(all)
 }
 
-fn all_forms(first: List<Form>, next: List<Form>) -> Result<List<Form>, NoMemory>
+pub fn all_forms(first: List<Form>, next: List<Form>) -> Result<List<Form>, NoMemory>
     ensures { IfOk result (λ all. all ≡ first ++ next) }
 {
     let mut all = first;

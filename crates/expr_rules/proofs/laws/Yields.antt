@@ -10,6 +10,10 @@ use Rattle.sym_heap.specs.Context.{Context, has_symbol, with_top, has_room, with
 use Rattle.expr_rules.specs.Words.{Rule, ◌>>=◌, need, found, made, cert, shown, fresh, added, fact}
 use Rattle.expr_rules.specs.Sound.{Yields}
 
+pub yields_more : {A : Type 0} (P Q : A → Context → Type 0) → ((a : A) (d : Context) → P a d → Q a d) → (r : Result (A × Context) Refusal) → Yields P r → Yields Q r
+yields_more P Q more (Ok p) is = more p.0 p.1 is
+yields_more P Q more (Err refusal) is = tt
+
 module _ {B : Type 0} (Q : B → Context → Type 0) (c : Context) where
   pub yields_then : {A : Type 0} (P : A → Context → Type 0) (m : Rule A) (k : A → Rule B) → Yields P (m c) → ((a : A) (d : Context) → P a d → Yields Q (k a d)) → Yields Q ((m >>= k) c)
   yields_then {A} P m k one more = by (m c) one where

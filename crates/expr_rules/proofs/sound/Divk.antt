@@ -2,6 +2,7 @@
 use Rattle.std.proofs.Common.{◌≡◌, refl, ◌∙◌, ap, arith, ℕ, ◌-◌, ◌*◌, ◌/◌, ◌≤◌, Bool, true, false, List, [], ◌∷◌, length, Option, Some, None, nat_abs, ℤ, pos, negsuc, neg_ℤ, ◌*ℤ◌, ◌≤ℤ◌}
 use Rattle.std.specs.Int.Signed.{le_z}
 use Rattle.std.proofs.lemmas.Int.{ints}
+use Rattle.rup_base.specs.Word.{quotient}
 use Rattle.side_certs.specs.LinearForm.{LinearForm, symbol, times, plus, constant, value_at}
 use Rattle.side_certs.proofs.laws.Values.{value_symbol}
 use Rattle.model_syntax.specs.declared.expr.Op.{Op}
@@ -9,7 +10,7 @@ use Rattle.model_syntax.specs.declared.expr.Op.TheVariants as op
 use Rattle.model_syntax.specs.declared.expr.Scalar.TheVariants.{Word}
 use Rattle.model_syntax.specs.declared.program.Param.{Param}
 use Rattle.model_syntax.specs.Environment.{Env}
-use Rattle.model_syntax.specs.Operation.{quotient, apply}
+use Rattle.model_syntax.specs.Operation.{apply}
 use Rattle.model_syntax.specs.Scope.{Scope}
 use Rattle.sym_heap.specs.Context.{Context, with_top, with_fact}
 use Rattle.sym_heap.specs.Fits.{Known}

@@ -22,7 +22,7 @@ pub fn after(ctx: &Ctx, at: u32, certs: &[Cert], p: ExprOut, q: ExprOut) -> Resu
 }
 
 /// The greatest word less both forms.
-fn room(f: &Form, g: &Form) -> Option<Form>
+pub fn room(f: &Form, g: &Form) -> Option<Form>
     ensures { result ≡ within (sum_of (pos most) ((negsuc 0, f.now) ∷ (negsuc 0, g.now) ∷ [])) }
 {
     Form::sum(

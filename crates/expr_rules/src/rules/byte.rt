@@ -19,7 +19,7 @@ pub fn after(ctx: &Ctx, at: u32, certs: &[Cert], p: ExprOut) -> Result<ExprOut, 
 }
 
 /// The greatest byte less the form.
-fn room(f: &Form) -> Option<Form>
+pub fn room(f: &Form) -> Option<Form>
     ensures { result ≡ within (sum_of (pos 255) ((negsuc 0, f.now) ∷ [])) }
 {
     Form::sum(255, &[Part { times: -1, form: f }])

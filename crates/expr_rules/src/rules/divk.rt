@@ -28,7 +28,7 @@ pub fn after(ctx: &mut Ctx, at: u32, op: Op, p: ExprOut, q: ExprOut) -> Result<E
 }
 
 /// What an operation divides by.
-fn divisor(op: Op, form: &Form) -> Option<u64>
+pub fn divisor(op: Op, form: &Form) -> Option<u64>
     ensures divisor { result ≡ spec.divisor op form.now }
     ensures range { IfSome result (λ n. (1 ≤ n) × (n ≤ 2 ^ 40)) }
 {
@@ -49,7 +49,7 @@ fn from_one(k: i64) -> Option<u64>
 }
 
 /// The greatest quotient of a word.
-fn greatest_quotient(by: u64) -> u32
+pub fn greatest_quotient(by: u64) -> u32
     requires { 1 ≤ by }
     ensures { result ≡ most / by }
 {
@@ -57,7 +57,7 @@ fn greatest_quotient(by: u64) -> u32
 }
 
 /// The form less the multiple of the quotient.
-fn remainder(by: u64, f: &Form, quotient: &Form) -> Option<Form>
+pub fn remainder(by: u64, f: &Form, quotient: &Form) -> Option<Form>
     requires { by ≤ 2 ^ 40 }
     ensures { result ≡ within (sum_of (pos 0) ((pos 1, f.now) ∷ (neg_ℤ (pos by), quotient.now) ∷ [])) }
 {
@@ -74,7 +74,7 @@ fn remainder(by: u64, f: &Form, quotient: &Form) -> Option<Form>
 }
 
 /// The greatest remainder less the remainder.
-fn room(by: u64, f: &Form, quotient: &Form) -> Option<Form>
+pub fn room(by: u64, f: &Form, quotient: &Form) -> Option<Form>
     requires { (1 ≤ by) × (by ≤ 2 ^ 40) }
     ensures { result ≡ within (sum_of (pos (by - 1)) ((pos by, quotient.now) ∷ (negsuc 0, f.now) ∷ [])) }
 {

@@ -41,7 +41,7 @@ fn code(alloc: Global, clause: &Clause, index: BExpr) -> Result<BExpr, NoMemory>
 }
 
 /// The length less the index and 1.
-fn room(length: &Form, index: &Form) -> Option<Form>
+pub fn room(length: &Form, index: &Form) -> Option<Form>
     ensures { result ≡ within (sum_of (negsuc 0) ((pos 1, length.now) ∷ (negsuc 0, index.now) ∷ [])) }
 {
     Form::sum(

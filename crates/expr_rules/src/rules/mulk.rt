@@ -57,7 +57,7 @@ fn product(
 }
 
 /// The greatest word less the multiple of the form.
-fn room(factor: i64, f: &Form) -> Option<Form>
+pub fn room(factor: i64, f: &Form) -> Option<Form>
     requires { is_small factor ≡ true }
     ensures { result ≡ within (sum_of (pos most) ((neg_ℤ factor, f.now) ∷ [])) }
 {

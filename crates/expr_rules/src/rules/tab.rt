@@ -52,7 +52,7 @@ fn code(alloc: Global, scalar: Scalar, entries: &[u32], index: BExpr) -> Result<
 }
 
 /// The number of entries less the index and 1.
-fn room(entries: &[u32], index: &Form) -> Option<Form>
+pub fn room(entries: &[u32], index: &Form) -> Option<Form>
     ensures { result ≡ within (words.sum_of (pos (length entries.now) +ℤ negsuc 0) ((negsuc 0, index.now) ∷ [])) }
 {
     Form::sum(

@@ -10,6 +10,7 @@ use Rattle.model_syntax.specs.declared.program.Param.{Param}
 use Rattle.model_syntax.specs.declared.scope.NameType.TheVariants.{Scalar as One, Array as Many}
 use Rattle.model_syntax.specs.Environment.{Env, value_of, put}
 use Rattle.model_syntax.specs.Names.{Name, same}
+use Rattle.model_syntax.specs.Sound.{IsTyped}
 use Rattle.model_syntax.specs.Scope.{Scope, look_up, bind, scalar_may_take}
 use Rattle.model_syntax.proofs.laws.Bindings.{same_is, value_else}
 use Rattle.sym_heap.specs.declared.parts.Held.{Held}
@@ -37,14 +38,14 @@ use Rattle.stmt_rules.specs.rules.Let.{setting}
 
 -- Locals.
 
-set_other : (vars : Vars) (x y : ℕ) (a : Option ℕ) → (y ≡ x → ⊥) → slice_get (slice_set vars x a) y ≡ slice_get vars y
+pub set_other : (vars : Vars) (x y : ℕ) (a : Option ℕ) → (y ≡ x → ⊥) → slice_get (slice_set vars x a) y ≡ slice_get vars y
 set_other [] x y a h = refl
 set_other (b ∷ l) zero zero a h = absurd (h refl)
 set_other (b ∷ l) zero (suc y) a h = refl
 set_other (b ∷ l) (suc x) zero a h = refl
 set_other (b ∷ l) (suc x) (suc y) a h = set_other l x y a (λ e. h (ap suc e))
 
-set_here : (vars : Vars) (x : ℕ) (a : Option ℕ) → x < length vars → slice_get (slice_set vars x a) x ≡ Some a
+pub set_here : (vars : Vars) (x : ℕ) (a : Option ℕ) → x < length vars → slice_get (slice_set vars x a) x ≡ Some a
 set_here [] x a h = absurd (omega (arith, h))
 set_here (b ∷ l) zero a h = refl
 set_here (b ∷ l) (suc x) a h = set_here l x a (omega (arith, h))
@@ -62,7 +63,7 @@ extends_moves before after e = record {
 }
 
 -- a name that a scalar may take is no array's
-no_array : (ps : List Param) (scope : Scope) (c : Context) (x : Name) → scalar_may_take (look_up scope x) ≡ Ok tt → IsScoped ps scope c → own c x ≡ None
+pub no_array : (ps : List Param) (scope : Scope) (c : Context) (x : Name) → scalar_may_take (look_up scope x) ≡ Ok tt → IsScoped ps scope c → own c x ≡ None
 no_array ps scope c x free s = by (own c x) refl where
   by : (o : Option Clause) → own c x ≡ o → own c x ≡ None
   by None e = e
@@ -72,7 +73,7 @@ no_array ps scope c x free s = by (own c x) refl where
       let type : look_up scope x ≡ Some (Many a.element a.len) = ap (look_up scope) (sym p.named) ∙ a.type in
       absurd (let bad : Err NameTaken ≡ Ok tt = sym (ap scalar_may_take type) ∙ free in cc)
 
-module _ (ps : List Param) (scope : Scope) (f : Env → ℕ) (t : Scalar) (before mid : Context) (p : ExprOut) (x : Name) (l : ℕ) (kid : ExprDone ps scope f t before p mid) (free : is_free mid l (Some x) ≡ true) (may : scalar_may_take (look_up scope x) ≡ Ok tt) where
+module _ (ps : List Param) (scope : Scope) (f : Env → ℕ) (t : Scalar) (before mid : Context) (p : ExprOut) (x : Name) (l : ℕ) (kid : ExprDone ps scope f t before p mid) (free : is_free mid l (Some x) ≡ true) (may : scalar_may_take (look_up scope x) ≡ Ok tt) (kept : (lengths : Name → ℕ) (env : Env) → IsTyped lengths scope env → IsTyped lengths (bind x (One t) scope) (put x (arg.Word (f env)) env)) where
   abbrev new : Held
   new = held x l p.form t
 
@@ -131,11 +132,12 @@ module _ (ps : List Param) (scope : Scope) (f : Env → ℕ) (t : Scalar) (befor
       put_in : assigned l (f env) vars ≡ Some (slice_set vars l (Some (f env)))
       put_in = let test : nat_lt l (length vars) ≡ true = lt-ltb l (length vars) room in rw test refl
 
-  pub let_done : StmtDone ps (bind x (One t) scope) (λ env. put x (arg.Word (f env)) env) before (setting l p.code) after
+  pub let_done : StmtDone ps scope (bind x (One t) scope) (λ env. put x (arg.Word (f env)) env) before (setting l p.code) after
   let_done = record {
     moves = moves_on before mid after (extends_moves before mid kid.extends) (bound_moves mid new free);
     consistent = bound_consistent mid new kid.known free kid.consistent;
     scoped = bound_scoped ps scope mid new may kid.scoped;
+    typed = kept;
     trips = λ w call rest. cost_is w call rest ∙ ap (λ (n : ℕ). (n, rest)) (ap (λ (q : ℕ × List LinearForm). q.0) (sym (cost_is w call [])));
-    runs = λ w call numbers env mem vars fits room. ran w call numbers env mem vars (room_is (length vars) room) (kid.runs call numbers env mem vars fits);
+    runs = λ lengths w call numbers env mem vars is fits room. ran w call numbers env mem vars (room_is (length vars) room) (kid.runs lengths call numbers env mem vars is fits);
   }

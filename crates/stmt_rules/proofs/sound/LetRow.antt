@@ -5,10 +5,11 @@ use Rattle.model_syntax.specs.declared.expr.Expr.{Expr, out-Expr}
 use Rattle.model_syntax.specs.declared.expr.Scalar.{Scalar}
 use Rattle.model_syntax.specs.declared.program.Param.{Param}
 use Rattle.model_syntax.specs.declared.scope.NameType.TheVariants.{Scalar as OneOf}
-use Rattle.model_syntax.specs.Environment.{put}
+use Rattle.model_syntax.specs.Environment.{Env, put}
 use Rattle.model_syntax.specs.ExprType.{type_of}
 use Rattle.model_syntax.specs.Formed.{expr_formed}
 use Rattle.model_syntax.specs.Names.{Name}
+use Rattle.model_syntax.specs.Sound.{IsTyped}
 use Rattle.model_syntax.specs.Scope.{Scope, look_up, bind, scalar_may_take}
 use Rattle.model_syntax.specs.Spelling.{expr_spellable}
 use Rattle.model_syntax.specs.Value.{eval}
@@ -27,12 +28,12 @@ use Rattle.expr_rules.proofs.laws.Yields.{yields_then}
 use Rattle.stmt_rules.proofs.sound.Kinds.{kind_is}
 use Rattle.stmt_rules.proofs.sound.Let.{let_done}
 
-module _ (ps : List Param) (scope : Scope) (t : Scalar) (c : Context) (x : Name) (a : Expr) (scoped : IsScoped ps scope c) (may : scalar_may_take (look_up scope x) ≡ Ok tt) (typed : type_of a scope ≡ Ok t) (at : ℕ) where
+module _ (ps : List Param) (scope : Scope) (t : Scalar) (c : Context) (x : Name) (a : Expr) (scoped : IsScoped ps scope c) (may : scalar_may_take (look_up scope x) ≡ Ok tt) (typed : type_of a scope ≡ Ok t) (kept : (lengths : Name → ℕ) (env : Env) → IsTyped lengths scope env → IsTyped lengths (bind x (OneOf t) scope) (put x (arg.Word (eval a env)) env)) (at : ℕ) where
   abbrev Q : StmtOut → Context → Type 0
-  Q = StmtDone ps (bind x (OneOf t) scope) (λ env. put x (arg.Word (eval a env)) env) c
+  Q = StmtDone ps scope (bind x (OneOf t) scope) (λ env. put x (arg.Word (eval a env)) env) c
 
   after_kid : (l : ℕ) (p : ExprOut) (mid : Context) → ExprDone ps scope (eval a) t c p mid → (b : Bool) → is_free mid l (Some x) ≡ b → Yields Q (let_rule.after at x l t p mid)
-  after_kid l p mid kid true e = rw e (let_done ps scope (eval a) t c mid p x l kid e may)
+  after_kid l p mid kid true e = rw e (let_done ps scope (eval a) t c mid p x l kid e may kept)
   after_kid l p mid kid false e = rw e tt
 
   with_kind : (l : ℕ) (p : ExprOut) (mid : Context) → ExprDone ps scope (eval a) t c p mid → (o : Option Scalar) → kind_of mid (out-Expr a) ≡ o

@@ -70,13 +70,14 @@ closed_known c args f k s is closed =
 
 -- a form that was closed becomes a fact
 pub note_done : (ps : List Param) (scope : Scope) (c : Context) (args : List ℤ) (f : LinearForm) (k : Cert) → IsConsistent c → IsScoped ps scope c
-    → flat args ≡ Some f → closes c.facts c.tops f k ≡ true → StmtDone ps scope (λ env. env) c nothing (with_fact f c)
+    → flat args ≡ Some f → closes c.facts c.tops f k ≡ true → StmtDone ps scope scope (λ env. env) c nothing (with_fact f c)
 note_done ps scope c args f k s scoped is closed = record {
   moves = fact_moves c f;
   consistent = consistent_fact c f known s;
   scoped = fact_scoped ps scope c f scoped;
+  typed = λ lengths env typed. typed;
   trips = λ w call rest. refl;
-  runs = λ w call numbers env mem vars fits room. record {
+  runs = λ lengths w call numbers env mem vars typed fits room. record {
     others = numbers;
     agree = λ n less. refl;
     left_mem = mem;
@@ -102,7 +103,7 @@ note_sound step alone at ps scope c s scoped =
     (λ f is. certs f is step.certs)))
   where
     Q : StmtOut → Context → Type 0
-    Q = StmtDone ps scope (λ env. env) c
+    Q = StmtDone ps scope scope (λ env. env) c
 
     room : (f : LinearForm) (k : Cert) → flat step.args ≡ Some f → closes c.facts c.tops f k ≡ true → (b : Bool) → has_room c ≡ b
         → Yields Q ((added at f >>= (λ _. give nothing)) c)

@@ -16,6 +16,7 @@ use Rattle.model_syntax.specs.declared.program.Param.{Param}
 use Rattle.model_syntax.specs.declared.scope.NameType.TheVariants.{Scalar as One, Array as Many}
 use Rattle.model_syntax.specs.Environment.{Env, value_of, elements, with_element, put_some}
 use Rattle.model_syntax.specs.Names.{Name, same}
+use Rattle.model_syntax.specs.Sound.{IsTyped}
 use Rattle.model_syntax.specs.Scope.{Scope, look_up, bind}
 use Rattle.model_syntax.proofs.laws.Bindings.{same_is, same_self, value_here, value_else}
 use Rattle.sym_heap.specs.declared.parts.Held.{Held}
@@ -54,16 +55,16 @@ use Rattle.stmt_rules.proofs.sound.Stores.{Placed, placed, element_stored}
 -- Values.
 
 -- an array with an element put is there
-there : (size i n : ℕ) (found : Option Arg) → IsArray size found → (v : Arg) × (with_element i n found ≡ Some v)
+pub there : (size i n : ℕ) (found : Option Arg) → IsArray size found → (v : Arg) × (with_element i n found ≡ Some v)
 there size i n None is = absurd is
 there size i n (Some (arg.Word m)) is = absurd is
 there size i n (Some (arg.Bytes ns)) is = (arg.Bytes (set ns i (n % 256)), refl)
 there size i n (Some (arg.Words ns)) is = (arg.Words (set ns i n), refl)
 
-put_here : (b : Name) (o : Option Arg) (v : Arg) (env : Env) → o ≡ Some v → value_of (put_some b o env) b ≡ o
+pub put_here : (b : Name) (o : Option Arg) (v : Arg) (env : Env) → o ≡ Some v → value_of (put_some b o env) b ≡ o
 put_here b o v env is = rw is (value_here b v env)
 
-put_else : (b x : Name) (o : Option Arg) (env : Env) → same b x ≡ false → value_of (put_some b o env) x ≡ value_of env x
+pub put_else : (b x : Name) (o : Option Arg) (env : Env) → same b x ≡ false → value_of (put_some b o env) x ≡ value_of env x
 put_else b x None env apart = refl
 put_else b x (Some v) env apart = value_else b x v env apart
 
@@ -87,7 +88,7 @@ room_is v l f n i length_is index_is not_below =
     omega (arith, ints, whole, rest, one, two, three, length_is, index_is, not_below)
 
 -- the range of an element is inside the range of its array
-element_inside : (call : Call) (v : ℕ → ℕ) (k : Clause) (i : ℕ) (found : Option Arg) (mem : Bytes) (locals : Locals) → ClauseFits call v k found mem locals → i < length (elements found)
+pub element_inside : (call : Call) (v : ℕ → ℕ) (k : Clause) (i : ℕ) (found : Option Arg) (mem : Bytes) (locals : Locals) → ClauseFits call v k found mem locals → i < length (elements found)
     → (address : ℕ) → Within (element_range call k i) address → Within (range_of call k.param) address
 element_inside call v k i found mem locals f less address at =
     let long = bytes_length k.size found f.array in
@@ -130,10 +131,10 @@ module _ (ps : List Param) (scope : Scope) (f g : Env → ℕ) (t : Scalar) (bef
     bytes : Stands left_mem (call.pointers k.param + k.size * f env) (element_bytes k.size (g env))
     kept : (address : ℕ) → (Within (element_range call k (f env)) address → ⊥) → get left_mem address ≡ get mem address
 
-  stored : (w : Weights) (call : Call) (numbers : ℕ → ℕ) (env : Env) (mem : Bytes) (vars : Vars) → FitsBy call numbers before env mem (local_at vars) → Stored w call numbers env mem vars
-  stored w call numbers env mem vars fits =
-      let r = one.runs call numbers env mem vars fits in
-      let s = two.runs call r.others env mem vars r.fits in
+  stored : (lengths : Name → ℕ) (w : Weights) (call : Call) (numbers : ℕ → ℕ) (env : Env) (mem : Bytes) (vars : Vars) → IsTyped lengths scope env → FitsBy call numbers before env mem (local_at vars) → Stored w call numbers env mem vars
+  stored lengths w call numbers env mem vars typed fits =
+      let r = one.runs lengths call numbers env mem vars typed fits in
+      let s = two.runs lengths call r.others env mem vars typed r.fits in
       let here : ClauseFits call s.others k (value_of env a) mem (local_at vars) = s.fits.clauses a k owned in
       let start : ℕ = call.pointers k.param in
       let index : value_at s.others p.form ≡ pos (f env) = known_same (length mid.tops) p.form r.others s.others one.known s.agree ∙ r.form in
@@ -181,13 +182,15 @@ module _ (ps : List Param) (scope : Scope) (f g : Env → ℕ) (t : Scalar) (bef
       time = (let is : (cost_all w call (cmd ∷ []) []).0 ≡ weight w = ap (λ (n : ℕ × List LinearForm). n.0) (cost_is w call []) in omega (arith, is));
     }
 
-    completed : (end_scope : Scope) → Moves before final → IsConsistent final → IsScoped ps end_scope final → StmtDone ps end_scope sem before (storing k p.code q.code) final
-    completed end_scope moved consistent scoped = record {
+    completed : (end_scope : Scope) → Moves before final → IsConsistent final → IsScoped ps end_scope final
+        → ((lengths : Name → ℕ) (env : Env) → IsTyped lengths scope env → IsTyped lengths end_scope (sem env)) → StmtDone ps scope end_scope sem before (storing k p.code q.code) final
+    completed end_scope moved consistent scoped kept = record {
       moves = moved;
       consistent = consistent;
       scoped = scoped;
+      typed = kept;
       trips = λ w call rest. cost_is w call rest ∙ ap (λ (n : ℕ). (n, rest)) (ap (λ (n : ℕ × List LinearForm). n.0) (sym (cost_is w call [])));
-      runs = λ w call numbers env mem vars fits below. ran w call numbers env mem vars (stored w call numbers env mem vars fits);
+      runs = λ lengths w call numbers env mem vars is fits below. ran w call numbers env mem vars (stored lengths w call numbers env mem vars is fits);
     }
 
   -- s-put
@@ -234,7 +237,7 @@ module _ (ps : List Param) (scope : Scope) (f g : Env → ℕ) (t : Scalar) (bef
         let more : l.writes ≡ j.writes + 1 = ap (λ (z : Clause). z.writes) (sym is) in
         absurd (omega (arith, more, writes))
 
-  pub put_done : StmtDone ps scope put_values before (storing k p.code q.code) counted
+  pub put_done : ((lengths : Name → ℕ) (env : Env) → IsTyped lengths scope env → IsTyped lengths scope (put_values env)) → StmtDone ps scope scope put_values before (storing k p.code q.code) counted
   put_done = completed counted put_values put_fits put_unwritten scope (moves_on before after counted moves (written_moves after a)) (counted_consistent after a two.consistent) (written_scoped ps scope after a two.scoped)
 
   -- s-move
@@ -330,6 +333,6 @@ module _ (ps : List Param) (scope : Scope) (f g : Env → ℕ) (t : Scalar) (bef
           let more : l.writes ≡ k.writes + 1 = ap (λ (z : Clause). z.writes) (sym is) in
           absurd (omega (arith, more, writes, old))
 
-    pub move_done : StmtDone ps (bind b (Many u n) scope) move_values before (storing k p.code q.code) moved
+    pub move_done : ((lengths : Name → ℕ) (env : Env) → IsTyped lengths scope env → IsTyped lengths (bind b (Many u n) scope) (move_values env)) → StmtDone ps scope (bind b (Many u n) scope) move_values before (storing k p.code q.code) moved
     move_done = completed moved move_values move_fits move_unwritten (bind b (Many u n) scope) (moves_on before after moved moves (renamed_moves after a b)) moved_consistent
         (moved_scoped ps scope counted a b u n array free (written_scoped ps scope after a two.scoped))

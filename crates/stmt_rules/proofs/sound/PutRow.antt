@@ -10,10 +10,11 @@ use Rattle.model_syntax.specs.declared.expr.Scalar.TheVariants.{Word}
 use Rattle.model_syntax.specs.declared.program.Len.{Len}
 use Rattle.model_syntax.specs.declared.program.Param.{Param}
 use Rattle.model_syntax.specs.declared.scope.NameType.TheVariants.{Array as Many}
-use Rattle.model_syntax.specs.Environment.{value_of, with_element, put_some}
+use Rattle.model_syntax.specs.Environment.{Env, value_of, with_element, put_some}
 use Rattle.model_syntax.specs.ExprType.{type_of}
 use Rattle.model_syntax.specs.Formed.{expr_formed}
 use Rattle.model_syntax.specs.Names.{Name}
+use Rattle.model_syntax.specs.Sound.{IsTyped}
 use Rattle.model_syntax.specs.Scope.{Scope, look_up, bind}
 use Rattle.model_syntax.specs.Spelling.{expr_spellable}
 use Rattle.model_syntax.specs.Value.{eval}
@@ -78,24 +79,25 @@ module _ (ps : List Param) (scope : Scope) (t : Scalar) (n : Len) (c : Context) 
         (sound_l (at + 1 + j.size) v ps scope t mid one.consistent one.scoped v_formed v_spelled v_typed) (λ q after two. (mid, (one, two))))
 
     abbrev Putting : StmtOut → Context → Type 0
-    Putting = StmtDone ps scope (λ env. put_some a (with_element (eval i env) (eval v env) (value_of env a)) env) c
+    Putting = StmtDone ps scope scope (λ env. put_some a (with_element (eval i env) (eval v env) (value_of env a)) env) c
 
-    pub put_yields : Yields Putting ((two_kids (j ∷ l ∷ []) at i v >>= (λ pq. put.after certs at a pq.0 pq.1)) c)
-    put_yields =
+    pub put_yields : ((lengths : Name → ℕ) (env : Env) → IsTyped lengths scope env → IsTyped lengths scope (put_some a (with_element (eval i env) (eval v env) (value_of env a)) env)) → Yields Putting ((two_kids (j ∷ l ∷ []) at i v >>= (λ pq. put.after certs at a pq.0 pq.1)) c)
+    put_yields kept =
         yields_then Putting c Pair (two_kids (j ∷ l ∷ []) at i v) (λ pq. put.after certs at a pq.0 pq.1) pair
         (λ pq d kids. yields_so (StoredAt d pq.0 pq.1) Putting (put.after certs at a pq.0 pq.1 d) (stored_at d pq.0 pq.1) (λ out e is.
-        rw (is.out_is, is.context) (put_done ps scope (eval i) (eval v) t c kids.0 d pq.0 pq.1 kids.1.0 kids.1.1 a is.clause is.owned (size d is.clause kids.1.1.scoped is.owned) is.shown)))
+        rw (is.out_is, is.context) (put_done ps scope (eval i) (eval v) t c kids.0 d pq.0 pq.1 kids.1.0 kids.1.1 a is.clause is.owned (size d is.clause kids.1.1.scoped is.owned) is.shown kept)))
 
-    module _ (b : Name) (free : look_up scope b ≡ None) where
+    module _ (b : Name) (free : look_up scope b ≡ None)
+        (kept : (lengths : Name → ℕ) (env : Env) → IsTyped lengths scope env → IsTyped lengths (bind b (Many t n) scope) (put_some b (with_element (eval i env) (eval v env) (value_of env a)) env)) where
       abbrev Moving : StmtOut → Context → Type 0
-      Moving = StmtDone ps (bind b (Many t n) scope) (λ env. put_some b (with_element (eval i env) (eval v env) (value_of env a)) env) c
+      Moving = StmtDone ps scope (bind b (Many t n) scope) (λ env. put_some b (with_element (eval i env) (eval v env) (value_of env a)) env) c
 
       named : (d : Context) (p q : ExprOut) (mid : Context) → ExprDone ps scope (eval i) Word c p mid → ExprDone ps scope (eval v) t mid q d → (out : StmtOut) (e : Context) → StoredAt d p q out e
           → Yields Moving ((move.may_take at a b >>= (λ _. move.named a b >>= (λ _. give out))) e)
       named d p q mid one two out e is =
           rw (is.out_is, is.context)
           (yields_need Moving (with_clause a written d) (can_move (with_clause a written d) a b) at 5 (λ _. move.named a b >>= (λ _. give (put.storing is.clause p.code q.code)))
-          (λ may. move_done ps scope (eval i) (eval v) t c mid d p q one two a is.clause is.owned (size d is.clause two.scoped is.owned) is.shown b t n may array free))
+          (λ may. move_done ps scope (eval i) (eval v) t c mid d p q one two a is.clause is.owned (size d is.clause two.scoped is.owned) is.shown b t n may array free kept))
 
       pub move_yields : Yields Moving ((two_kids (j ∷ l ∷ []) at i v >>= (λ pq. move.after certs at a b pq.0 pq.1)) c)
       move_yields =

@@ -1,5 +1,6 @@
 -- s-move []: as s-put, and the array goes on under another name. Condition 5, before the kids too: no other array has that name.
 use Rattle.std.specs.Prelude.{ℕ, List, Ok}
+use Rattle.expr_rules.specs.rules.Get as get_rule
 use Rattle.side_certs.specs.declared.certificate.Cert.{Cert}
 use Rattle.model_syntax.specs.Names.{Name}
 use Rattle.sym_heap.specs.Context.{can_move, with_clause, renamed}
@@ -14,7 +15,7 @@ may_take at a b c = need (can_move c a b) at 5 c
 
 abbrev pub before : ℕ → Name → Name → Rule (Unit {0})
 before at a b = do
-  _ ← put.before at a
+  _ ← get_rule.before at a
   may_take at a b
 
 -- the array has the name b

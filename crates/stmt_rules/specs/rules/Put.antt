@@ -1,6 +1,7 @@
 -- s-put []: the element of an index gets a value. Condition 4, before the kids: the name is an array's. One certificate: the
 -- length less the index and 1. Condition 3: there is room for a further write, as there is in every derivation.
 use Rattle.std.specs.Prelude.{ℕ, nat_lt, pos, negsuc, List, [], ◌∷◌, Ok, is_some}
+use Rattle.expr_rules.specs.rules.Get.{array}
 use Rattle.side_certs.specs.declared.certificate.Cert.{Cert}
 use Rattle.model_syntax.specs.Names.{Name}
 use Rattle.sym_heap.specs.declared.parts.Clause.{Clause}
@@ -18,10 +19,6 @@ use Rattle.stmt_rules.specs.Words.{only}
 abbrev pub most_writes : ℕ
 most_writes = 4294967295
 
--- the name is an array's
-abbrev pub before : ℕ → Name → Rule (Unit {0})
-before at a c = need (is_some (own c a)) at 4 c
-
 -- the command that stores the element
 abbrev pub storing : Clause → BExpr → BExpr → StmtOut
 storing k index v = only (roll-Cmd (c.Store (size_of k.size) (address k index) v))
@@ -36,10 +33,6 @@ element certs at a k p q = do
   _ ← need (nat_lt k.writes most_writes) at 3
   _ ← counted_write a
   give (storing k p.code q.code)
-
--- the kids have left the clauses as they were
-abbrev pub array : ℕ → Name → Rule Clause
-array at a c = found (own c a) at 4 c
 
 -- after index and value
 abbrev pub after : List Cert → ℕ → Name → ExprOut → ExprOut → Rule StmtOut

@@ -1,5 +1,6 @@
 //! s-put: the element of an index gets a value.
 ghost use Rattle.std.specs.Prelude.{◌≡◌, [], ◌∷◌, pos, negsuc, IfOk};
+ghost use Rattle.expr_rules.specs.rules.Get as get_rule;
 ghost use Rattle.rup_base.specs.Answers.{AnswersWith};
 ghost use Rattle.side_certs.specs.LinearForm.{within};
 ghost use Rattle.expr_rules.specs.Words.{sum_of};
@@ -20,7 +21,7 @@ const MOST_WRITES: u32 = 4_294_967_295;
 
 /// The name is an array's.
 pub fn before(ctx: &Ctx, at: u32, a: &Name) -> Result<(), Fail>
-    ensures { AnswersWith result ctx.now (spec.before at a.now ctx.now) }
+    ensures { AnswersWith result ctx.now (get_rule.before at a.now ctx.now) }
 {
     need(ctx.own(a).is_some(), at, 4)
 }

@@ -1,0 +1,16 @@
+mod BlockNode
+mod Blocks
+mod Depth
+mod ExprLaw
+mod Fitting
+mod Goals
+mod Inside
+mod Least
+mod Multiples
+mod Shown
+mod Stands
+mod Starting
+mod Steps
+mod StmtLaw
+mod Trying
+mod rules

@@ -1,32 +1,17 @@
 -- The image that `replay` wrote for a model is run to what the model is evaluated to.
-use Rattle.std.proofs.Common.{◌≡◌, ℕ, ◌≤◌, List, length, map, Some, Result, Ok, Err, refl, sym, subst, ap, ◌∙◌, arith}
-use Rattle.rup_base.specs.declared.refusal.Refusal.{Refusal}
+use Rattle.std.proofs.Common.{◌≡◌, ℕ, List, length, Some, Ok, sym, subst, ap, ◌∙◌, arith}
 use Rattle.rup_base.specs.declared.arg.Kind.{Kind}
-use Rattle.image_layout.proofs.Layouts.{is_read}
+use Rattle.image_layout.proofs.laws.Layouts.{is_read}
 use Rattle.image_layout.proofs.laws.Length.{image_small}
 use Rattle.image_layout.specs.Spelling.{spelling}
-use Rattle.model_syntax.specs.declared.program.Model.{Model}
-use Rattle.model_syntax.specs.Types.{Well, judge}
 use Rattle.model_reader.specs.Reading.{read_model}
-use Rattle.model_types.specs.Checked.{checked}
-use Rattle.model_syntax.specs.Answer.{◌>>=◌}
-use Rattle.rup_base.specs.Answers.{and_then}
 use Rattle.run_setup.specs.Reading.{ReadsAll}
+use Rattle.rup_top.proofs.Reading.{typed_well}
 use Rattle.rup_top.specs.Agreement.{HoldsBoth, RunIsEval}
-use Rattle.rup_top.specs.Inputs.{image_limit, typed_model}
 use Rattle.rup_top.specs.commands.Run.{CallsGood}
 use Rattle.rup_top.specs.commands.Eval.{CallsModel}
 use Rattle.rup_top.proofs.shown.Run.{run_gives}
 use Rattle.rup_top.proofs.shown.Eval.{eval_gives}
-
--- a model that is typed is well typed
-judged_well : (n m : Model) (j : Result (Unit {0}) Refusal) → judge n ≡ j → (j >>= (λ u. Ok n)) ≡ Ok m → Well m
-judged_well n m (Ok u) is e = let same : n ≡ m = cc in let P : Model → Type 0 = λ x. judge x ≡ Ok tt in subst P same is
-judged_well n m (Err r) is e = absurd (cc)
-
-typed_well : (m : Model) (r : Result Model Refusal) → and_then r checked ≡ Ok m → Well m
-typed_well m (Ok n) e = judged_well n m (judge n) refl e
-typed_well m (Err r) e = absurd (cc)
 
 module _ (files : List (List ℕ × List ℕ)) (model image : List ℕ) (texts : List (List ℕ)) (given : HoldsBoth (Some files) model image texts) where
   for_eval : CallsModel (Some files) model texts

@@ -1,26 +1,30 @@
 -- The clauses of the top call, from how a call ends and from what each command shows.
-use Rattle.std.proofs.Common.{◌≡◌, ◌≢◌, ℕ, List, [], ◌⊎◌, inl, inr, refl, sym, subst, ap, ◌∙◌, arith}
+use Rattle.std.proofs.Common.{◌≡◌, ◌≢◌, ℕ, ◌⊎◌, inl, inr, refl, sym, subst, ap, ◌∙◌, arith}
 use Rattle.rup_io.specs.Count.{Rose}
 use Rattle.rup_top.specs.declared.answer.Answer.{Answer}
 use Rattle.rup_top.specs.Answer.{usage_answer}
-use Rattle.rup_top.specs.Dispatch.{script_of, Promise, WritesOnly, WritesAll}
+use Rattle.rup_top.specs.Dispatch.{script_of, Promise, Compiled, WritesOnly, WritesAll}
 use Rattle.rup_top.specs.Frame.{Told, Call, Comes, Ends}
-use Rattle.rup_top.specs.Words.{Command, usage, replay, code, run, eval, show}
+use Rattle.rup_top.specs.Words.{Command, usage, compile, replay, code, run, eval, show, bench}
 use Rattle.rup_top.proofs.Ends.{IsPlain, Shows, Ending, ending, no_status}
+use Rattle.rup_top.proofs.shown.Compile.{compile_shows}
 use Rattle.rup_top.proofs.shown.Replay.{replay_shows}
 use Rattle.rup_top.proofs.shown.Code.{code_shows}
 use Rattle.rup_top.proofs.shown.Run.{run_shows}
 use Rattle.rup_top.proofs.shown.Eval.{eval_shows}
 use Rattle.rup_top.proofs.shown.Show.{show_shows}
+use Rattle.rup_top.proofs.shown.Bench.{bench_shows}
 
 -- what each command shows
 shows : (c : Command) → (c ≡ usage → ⊥) → Shows (script_of c) (λ call. Promise c call)
 shows usage asks = absurd (asks refl)
+shows (compile model lemmas) asks = compile_shows model lemmas
 shows (replay model tree size) asks = replay_shows model tree size
 shows (code model tree) asks = code_shows model tree
 shows (run image texts) asks = run_shows image texts
 shows (eval model texts) asks = eval_shows model texts
 shows (show image) asks = show_shows image
+shows (bench seed count) asks = bench_shows seed count
 
 -- ---- Usage, or a command.
 
@@ -90,3 +94,7 @@ writes_only c call kept = tt
 pub writes_all : (c : Command) (call : Call) → Promise c call → WritesAll c call
 writes_all (replay model tree size) call kept = kept.writes_all
 writes_all c call kept = tt
+
+pub compiled : (c : Command) (call : Call) → Promise c call → Compiled c call
+compiled (compile model lemmas) call kept = kept.writes_only
+compiled c call kept = tt

@@ -7,7 +7,7 @@ use Rattle.rup_base.specs.declared.refusal.Refusal.TheVariants.{Stuck, TooLong}
 use Rattle.rup_io.specs.Count.{Rose}
 use Rattle.rup_top.specs.declared.answer.Answer.{Answer}
 use Rattle.rup_top.specs.Answer.{status_of, refused, read_fault}
-use Rattle.rup_top.specs.Frame.{Told, Read, Sunk, Call, IsUndisturbed, Script, comes_to, asks, takes, Comes, Came, Faulted, Answers, Whole, Delivers, OutOfMemory, Ends, Writes}
+use Rattle.rup_top.specs.Frame.{Told, Call, IsUndisturbed, Script, comes_to, asks, takes, Comes, Came, Faulted, Answers, Whole, Delivers, OutOfMemory, Ends, Writes}
 
 -- ---- The answers of scripts.
 

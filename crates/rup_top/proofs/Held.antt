@@ -1,9 +1,8 @@
 -- Where files are told, a script has one file of a name, and words give one list of arguments.
-use Rattle.std.proofs.Common.{◌≡◌, ℕ, zero, suc, ◌<◌, ◌≤◌, List, [], ◌∷◌, length, Option, Some, None, Ok, Err, ◌⊎◌, inl, inr, refl, sym, subst, ap, ◌∙◌, arith, slice_get}
+use Rattle.std.proofs.Common.{◌≡◌, ℕ, zero, suc, ◌≤◌, List, [], ◌∷◌, length, Option, Some, None, Ok, Err, inl, inr, refl, sym, subst, ap, ◌∙◌, arith, slice_get}
 use Rattle.rup_base.specs.declared.arg.Arg.{Arg}
 use Rattle.rup_base.specs.declared.arg.Kind.{Kind}
 use Rattle.rup_base.specs.declared.refusal.Refusal.{Refusal}
-use Rattle.rup_base.specs.declared.refusal.Refusal.TheVariants.{TooLong}
 use Rattle.rup_io.specs.Files.{file_of}
 use Rattle.run_setup.specs.declared.arguments.Source.{Source}
 use Rattle.run_setup.specs.declared.arguments.Source.TheVariants.{ByItself, ByFile}
@@ -11,7 +10,6 @@ use Rattle.run_setup.specs.declared.reading.ArgsFail.TheVariants.{Refused}
 use Rattle.run_setup.specs.Arguments.{source_of, array_of}
 use Rattle.run_setup.specs.Reading.{GivesFrom, Gives, RefusesFrom, ReadsOne, ReadsAll, AllGive}
 use Rattle.rup_top.specs.declared.answer.Answer.{Answer}
-use Rattle.rup_top.specs.Answer.{refused}
 use Rattle.rup_top.specs.Frame.{Script, asks, takes, Comes}
 
 same_some : {A : Type 0} (a b : A) → ◌≡◌ {A = Option A} (Some a) (Some b) → a ≡ b

@@ -2,6 +2,10 @@ pub mod Steps
 pub mod Ends
 pub mod Told
 pub mod Held
+pub mod Reading
+pub mod Rooms
+pub mod Over
+pub mod Writable
 pub mod shown
 pub mod Dispatched
 pub mod Agreeing

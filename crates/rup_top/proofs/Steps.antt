@@ -13,8 +13,8 @@ use Rattle.rup_top.specs.declared.answer.Answer.{Answer}
 use Rattle.rup_top.specs.declared.answer.Stop.{Stop}
 use Rattle.rup_top.specs.declared.answer.Stop.TheVariants as stops
 use Rattle.rup_top.specs.Answer.{refused, read_fault}
-use Rattle.rup_top.specs.Frame.{Told, Read, IsStill, Script, asks, takes, Comes, Reaches, Came, Answers}
-use Rattle.rup_top.specs.Steps.{Fetched, Taken, Stops, Gives, Breaks, Tells, fetch_alone, arguments_alone}
+use Rattle.rup_top.specs.Frame.{Told, Read, IsStill, Script, asks, takes, Comes, Reaches, Answers}
+use Rattle.rup_top.specs.Steps.{Fetched, Stops, Gives, Breaks, Tells, fetch_alone, arguments_alone}
 use Rattle.rup_top.specs.Stops.{stop_of_args}
 
 pub stops_with : (P Q : Answer → Type 0) (stop : Stop) → ((a : Answer) → P a → Q a) → Stops stop P → Stops stop Q

@@ -6,9 +6,12 @@ use Rattle.model_syntax.specs.declared.program.Model.{Model}
 use Rattle.model_reader.specs.Reading.{read_model}
 use Rattle.model_types.specs.Checked.{checked}
 
--- the greatest lengths of a model's, a derivation's and an image's file, in bytes
+-- the greatest lengths of a model's, a lemma file's, a derivation's and an image's file, in bytes
 abbrev pub model_limit : ℕ
 model_limit = 1_048_576
+
+abbrev pub lemma_limit : ℕ
+lemma_limit = 1_048_576
 
 abbrev pub tree_limit : ℕ
 tree_limit = 16_777_216

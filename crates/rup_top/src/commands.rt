@@ -1,5 +1,7 @@
 //! The commands, a module each.
+pub mod bench;
 pub mod code;
+pub mod compile;
 pub mod derivations;
 pub mod eval;
 pub mod replay;

@@ -12,6 +12,9 @@ use std::alloc::Global;
 /// The greatest length of a model's file, in bytes.
 pub const MODEL_LIMIT: u32 = 1_048_576;
 
+/// The greatest length of a lemma file, in bytes.
+pub const LEMMA_LIMIT: u32 = 1_048_576;
+
 /// The greatest length of a derivation's file, in bytes.
 pub const TREE_LIMIT: u32 = 16_777_216;
 

@@ -2,14 +2,16 @@
 ghost use Rattle.std.specs.Prelude.{◌≡◌, ◌≢◌, ◌≤◌, ◌⊎◌, map, string_bytes, IfOk};
 ghost use Rattle.std.specs.Io.KnownBytes.{Keeps};
 ghost use Rattle.rup_io.specs.Count.{Rose};
-ghost use Rattle.rup_top.specs.Dispatch.{script_of, Promise, WritesOnly, WritesAll};
+ghost use Rattle.rup_top.specs.Dispatch.{script_of, Promise, Compiled, WritesOnly, WritesAll};
 ghost use Rattle.rup_top.specs.Frame.{Answers, Faulted, Ends, IsTold, call_with, read_between, sunk_between};
 ghost use Rattle.rup_top.specs.Steps.{Follows};
 ghost use Rattle.rup_top.specs.Words.{command_of, usage as usage_row};
 
 use crate::answer::{Answer, Stop};
 use crate::answers;
+use crate::commands::bench::bench;
 use crate::commands::code::code;
+use crate::commands::compile::compile;
 use crate::commands::eval::eval;
 use crate::commands::replay::replay;
 use crate::commands::run::run;
@@ -24,14 +26,15 @@ use std::alloc::Global;
 #[derive(Clone, Copy, Debug, PartialEq, Eq)]
 pub struct Status(pub u8);
 
-/// Runs the command that the words name, over files and two sinks. `replay M D` writes to `out` the image for the model
+/// Runs the command that the words name, over files and two sinks. `compile M LEMMAS*` writes to `out` the file of a derivation of
+/// the model in the file M, which the search finds with the lemmas of the other files in their order; `replay M D` writes to `out` the image for the model
 /// in the file M and its derivation in the file D; `code M D` the command that is derived; `run IMAGE ARG*` the results of a
-/// run of the image; `eval M ARG*` the value of the model; `show IMAGE` the listing of the image. A line of `replay` and of
-/// `run` goes to `notes` behind that.
+/// run of the image; `eval M ARG*` the value of the model; `show IMAGE` the listing of the image; `bench SEED COUNT` the line of
+/// a generated model that is compiled and run. A line of `compile`, of `replay` and of `run` goes to `notes` behind that.
 ///
 /// The status is 0 where the command is done, 1 where its input is refused, 2 where the words fit no row of the
-/// command table, 3 where a fetch failed, 4 where a write failed, 5 where memory ran out before the first write, and 7
-/// where a run trapped or was out of steps. No command comes to 6 yet.
+/// command table, 3 where a fetch failed, 4 where a write failed, 5 where memory ran out before the first write, 6
+/// where the search of a derivation is stuck, and 7 where a run trapped or was out of steps.
 pub fn top<F: Files, O: Sink, N: Sink>(
     alloc: Global,
     words: &[String],
@@ -74,8 +77,14 @@ pub fn top<F: Files, O: Sink, N: Sink>(
     ensures writes_all { WritesAll (command_of (map string_bytes words.now))
         (call_with (read_between F.held F.faults F.last files.old files.new) (sunk_between O.faults O.taken out.old out.new) (sunk_between N.faults N.taken notes.old notes.new) result.0) }
 
+    // Compiled: what `compile` writes is the file of a derivation that is an instance of the model. The file is read back as that
+    // derivation unless that is too deep, as it never is without lemmas, and the replayer accepts it up to the limits of slots, of the bound and of the size.
+    ensures compiled { Compiled (command_of (map string_bytes words.now))
+        (call_with (read_between F.held F.faults F.last files.old files.new) (sunk_between O.faults O.taken out.old out.new) (sunk_between N.faults N.taken notes.old notes.new) result.0) }
+
     // Kept: what the command promises. `run` and `eval` write exactly the lines of the model's results, where files are
-    // told, the arguments meet the model and no count of faults rose, or memory runs out; so `show` writes an image's listing.
+    // told, the arguments meet the model and no count of faults rose, or memory runs out; so `show` writes an image's listing. `bench` writes
+    // its line, with the model's results, where the search finds a derivation that is accepted and its bound is at most 10^9.
     ensures keeps { Promise (command_of (map string_bytes words.now))
         (call_with (read_between F.held F.faults F.last files.old files.new) (sunk_between O.faults O.taken out.old out.new) (sunk_between N.faults N.taken notes.old notes.new) result.0) }
 {
@@ -119,10 +128,12 @@ fn commanded<F: Files>(alloc: Global, words: &[String], files: &mut F) -> Result
 {
     match request_of(words) {
         Request::Usage => Ok(answers::usage(alloc)?),
+        Request::Compile { model, lemmas } => compile(alloc, model, lemmas, files),
         Request::Replay { model, tree, size } => replay(alloc, model, tree, size, files),
         Request::Code { model, tree } => code(alloc, model, tree, files),
         Request::Run { image, words } => run(alloc, image, words, files),
         Request::Eval { model, words } => eval(alloc, model, words, files),
         Request::Show { image } => show(alloc, image, files),
+        Request::Bench { seed, count } => bench(alloc, seed, count),
     }
 }

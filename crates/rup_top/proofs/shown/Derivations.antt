@@ -19,7 +19,7 @@ use Rattle.rup_top.specs.Frame.{Told, Call, Comes, IsUndisturbed, Ends, asks, co
 use Rattle.rup_top.specs.Inputs.{model_limit, tree_limit, typed_model}
 use Rattle.rup_top.specs.Steps.{Stops, EndsOnDerivation}
 use Rattle.rup_top.specs.Stops.{stop_of_fail}
-use Rattle.rup_top.specs.commands.Derivations.{Answering, Done as Finished, Judged, Refuses, Accepts, AcceptsFiles, script}
+use Rattle.rup_top.specs.commands.Derivations.{Answering, Judged, Refuses, AcceptsFiles, script}
 use Rattle.rup_top.proofs.Ends.{IsProper, proper_done, proper_refused, refused_not_zero, leads, Done, Ending, ending, undisturbed}
 use Rattle.rup_top.proofs.Held.{comes_behind}
 

@@ -1,5 +1,5 @@
 -- What `run` must show: its answers are its own, and the run of an image that is good for a model writes the model's results.
-use Rattle.std.proofs.Common.{◌≡◌, ℕ, ◌≤◌, List, length, Some, Result, Ok, Err, IfOk, inl, inr, refl, sym, subst, ap, ◌∙◌, arith}
+use Rattle.std.proofs.Common.{◌≡◌, ℕ, List, Some, Result, Ok, Err, IfOk, inr, refl, sym, subst, ap, ◌∙◌, arith}
 use Rattle.rup_base.specs.Answers.{and_then}
 use Rattle.rup_base.specs.declared.arg.Arg.{Arg}
 use Rattle.rup_base.specs.declared.no_memory.NoMemory.{NoMemory}

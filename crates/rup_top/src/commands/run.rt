@@ -129,7 +129,7 @@ fn answer_for(
 }
 
 /// The image's bound at the arguments.
-fn bound_at(alloc: Global, image: &Image, args: &Args) -> Result<u128, NoMemory>
+pub fn bound_at(alloc: Global, image: &Image, args: &Args) -> Result<u128, NoMemory>
     requires { judged image.now args.now ≡ Ok tt }
     ensures { IfOk result (λ bound. bound ≡ spec.bound_at image.now args.now) }
 {
@@ -138,7 +138,7 @@ fn bound_at(alloc: Global, image: &Image, args: &Args) -> Result<u128, NoMemory>
 }
 
 /// As many steps as the bound, and at most 1,000,000,000.
-fn budget(bound: u128) -> u64
+pub fn budget(bound: u128) -> u64
     ensures { result ≡ spec.budget_of bound }
 {
     if bound <= u128::from(MOST_STEPS) {
@@ -159,7 +159,8 @@ fn returned_line(alloc: Global, steps: u64, bound: u128) -> Result<Text, NoMemor
     Ok(text)
 }
 
-fn trapped_text(alloc: Global, cause: Cause, pc: u32, steps: u64) -> Result<Text, NoMemory>
+/// Why a run trapped, without a line feed.
+pub fn trapped_text(alloc: Global, cause: Cause, pc: u32, steps: u64) -> Result<Text, NoMemory>
     ensures { IfOk result (λ text. text ≡ spec.trapped_text cause pc steps) }
 {
     let cause = format!(in alloc; "trapped {cause} ")?;
@@ -170,7 +171,8 @@ fn trapped_text(alloc: Global, cause: Cause, pc: u32, steps: u64) -> Result<Text
     Ok(text)
 }
 
-fn out_of_steps_text(alloc: Global, steps: u64) -> Result<Text, NoMemory>
+/// That a run had no steps left, without a line feed.
+pub fn out_of_steps_text(alloc: Global, steps: u64) -> Result<Text, NoMemory>
     ensures { IfOk result (λ text. text ≡ spec.out_of_steps_text steps) }
 {
     let mut text = Text::from_slice(alloc, b"out of steps ")?;

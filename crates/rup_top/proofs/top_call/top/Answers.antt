@@ -1,4 +1,4 @@
-use Rattle.rup_top.proofs.Dispatched.{two, on_usage, plain, keeps, writes_only, writes_all}
+use Rattle.rup_top.proofs.Dispatched.{two, on_usage, plain, keeps, writes_only, writes_all, compiled}
 use Rattle.rup_top.proofs.Ends.{ending, three, four, five, at_most, unchanged}
 use Rattle.rup_top.proofs.Told.{told}
 use Rattle.rup_top.proofs.top_call.top.Goals as goal
@@ -35,3 +35,6 @@ returns-clause-writes_all g c = writes_all _ _ (keeps _ _ c.call.ensures.ends)
 
 pub returns-clause-keeps : goal.returns-clause-keeps
 returns-clause-keeps g c = keeps _ _ c.call.ensures.ends
+
+pub returns-clause-compiled : goal.returns-clause-compiled
+returns-clause-compiled g c = compiled _ _ (keeps _ _ c.call.ensures.ends)

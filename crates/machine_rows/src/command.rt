@@ -153,30 +153,77 @@ fn command(alloc: Global, form: &Sx, room: &mut u32) -> Result<Cmd, Fault>
     let [head, rest @ ..] = kids.as_slice() else {
         return Err(Fault::BadLine);
     };
-    let word = atom_of(head)?;
-    if word == "seq" {
-        return Ok(Cmd::Seq(commands(alloc, rest, room)?));
+    match atom_of(head)?.as_bytes() {
+        b"seq" => sequence(alloc, rest, room),
+        b"if" => conditional(alloc, rest, room),
+        b"while" => looping(alloc, rest, room),
+        b"set" => setting(alloc, rest, room),
+        _ => storing(alloc, head, rest, room),
     }
-    match rest {
-        [e, first, second] if word == "if" => {
-            let test = expression(alloc, e, room)?;
-            let first = command(alloc, first, room)?;
-            let second = command(alloc, second, room)?;
-            Ok(Cmd::Cond(test, Box::new(alloc, first)?, Box::new(alloc, second)?))
-        }
-        [e, body] if word == "while" => {
-            let test = expression(alloc, e, room)?;
-            let body = command(alloc, body, room)?;
-            Ok(Cmd::While(test, Box::new(alloc, body)?))
-        }
-        [x, e] if word == "set" => Ok(Cmd::Set(local_of(x)?, expression(alloc, e, room)?)),
-        [at, e] => {
-            let size = size_of(head, "store")?;
-            let address = expression(alloc, at, room)?;
-            Ok(Cmd::Store(size, address, expression(alloc, e, room)?))
-        }
-        _ => Err(Fault::BadLine),
-    }
+}
+
+/// Commands in a row. What the node itself needs is taken already, here and below.
+#[cycle(command)]
+fn sequence(alloc: Global, forms: &[Sx], room: &mut u32) -> Result<Cmd, Fault>
+    ensures { IfOk result (λ c. cmd_size c + cmd_weight Weights.LARGE c + room.new ≤ room.old + 7) }
+{
+    Ok(Cmd::Seq(commands(alloc, forms, room)?))
+}
+
+/// A test and two sides.
+#[cycle(command)]
+fn conditional(alloc: Global, forms: &[Sx], room: &mut u32) -> Result<Cmd, Fault>
+    ensures { IfOk result (λ c. cmd_size c + cmd_weight Weights.LARGE c + room.new ≤ room.old + 7) }
+{
+    let [e, first, second] = forms else {
+        return Err(Fault::BadLine);
+    };
+    let test = expression(alloc, e, room)?;
+    let first = part(alloc, first, room)?;
+    Ok(Cmd::Cond(test, first, part(alloc, second, room)?))
+}
+
+/// A test and a body.
+#[cycle(command)]
+fn looping(alloc: Global, forms: &[Sx], room: &mut u32) -> Result<Cmd, Fault>
+    ensures { IfOk result (λ c. cmd_size c + cmd_weight Weights.LARGE c + room.new ≤ room.old + 7) }
+{
+    let [e, body] = forms else {
+        return Err(Fault::BadLine);
+    };
+    let test = expression(alloc, e, room)?;
+    Ok(Cmd::While(test, part(alloc, body, room)?))
+}
+
+/// A local and its value.
+fn setting(alloc: Global, forms: &[Sx], room: &mut u32) -> Result<Cmd, Fault>
+    ensures { IfOk result (λ c. cmd_size c + cmd_weight Weights.LARGE c + room.new ≤ room.old + 7) }
+{
+    let [x, e] = forms else {
+        return Err(Fault::BadLine);
+    };
+    Ok(Cmd::Set(local_of(x)?, expression(alloc, e, room)?))
+}
+
+/// An address and what is stored there, with the size in the first word.
+fn storing(alloc: Global, head: &Sx, forms: &[Sx], room: &mut u32) -> Result<Cmd, Fault>
+    ensures { IfOk result (λ c. cmd_size c + cmd_weight Weights.LARGE c + room.new ≤ room.old + 7) }
+{
+    let [at, e] = forms else {
+        return Err(Fault::BadLine);
+    };
+    let size = size_of(head, "store")?;
+    let address = expression(alloc, at, room)?;
+    Ok(Cmd::Store(size, address, expression(alloc, e, room)?))
+}
+
+/// A command inside another.
+#[cycle(command)]
+fn part(alloc: Global, form: &Sx, room: &mut u32) -> Result<Box<Cmd>, Fault>
+    ensures { IfOk result (λ c. cmd_size c + cmd_weight Weights.LARGE c + room.new ≤ room.old) }
+{
+    let c = command(alloc, form, room)?;
+    Ok(Box::new(alloc, c)?)
 }
 
 #[cycle(command)]

@@ -2,12 +2,15 @@
 ghost use Rattle.std.specs.Prelude.{◌+◌, ◌≤◌, IfOk};
 ghost use Rattle.bed_syntax.specs.Shape.{cmd_size};
 ghost use Rattle.bed_syntax.specs.Weight.{cmd_weight};
+ghost use Rattle.flat_lang.specs.Count.{code_weight};
+ghost use Rattle.flat_lang.specs.Whole.{IsWhole};
 
 use crate::bytes::put_bytes;
 use crate::command::command_of;
 use bed_syntax::{Cmd, Weights};
+use flat_lang::Flat;
 use flatten::flatten;
-use reg_alloc::allocate;
+use reg_alloc::{At, Plan, allocate, check_plan};
 use row_cases::{Fault, bytes_of, number_of};
 use rup_base::{List, Text};
 use rv_code::{Instr, encode};
@@ -58,10 +61,15 @@ fn call_of(alloc: Global, line: &str) -> Result<Call, Fault> {
 /// Calls the code of a command, as `v2 7 8; (set v2 (add v0 v1))`: the results, and the bytes then.
 pub fn called(alloc: Global, line: &str) -> Result<String, Fault> {
     let (line, text) = line.split_once("; ").unwrap_or((line, ""));
-    let command = command_of(alloc, text)?;
     let call = call_of(alloc, line)?;
-    let emitted = code_of(alloc, &command, call.args.len(), call.rets.as_slice())?;
+    let emitted = emitted_of(alloc, text, call.args.len(), call.rets.as_slice())?;
     results(alloc, &emitted, call)
+}
+
+/// The code of the command of a text.
+fn emitted_of(alloc: Global, text: &str, args: usize, rets: &[u32]) -> Result<Emitted, Fault> {
+    let command = command_of(alloc, text)?;
+    code_of(alloc, &command, args, rets)
 }
 
 /// The results of a call, and the bytes then.
@@ -91,9 +99,12 @@ fn results_text(
     Ok(text)
 }
 
-/// The code of a command with so many arguments.
-fn code_of(alloc: Global, command: &Cmd, args: usize, rets: &[u32]) -> Result<Emitted, Fault>
+/// The three-address code of a command with so many arguments.
+fn flat_of(alloc: Global, command: &Cmd, args: usize, rets: &[u32]) -> Result<Flat, Fault>
     requires { cmd_size command.now + cmd_weight Weights.LARGE command.now ≤ 200000 }
+    ensures whole { IfOk result (λ f. IsWhole f) }
+    ensures few { IfOk result (λ f. f.vars ≤ 400) }
+    ensures light { IfOk result (λ f. code_weight Weights.LARGE f.body ≤ 250000) }
 {
     if args > 8 || rets.len() > 2 {
         return Err(Fault::BadLine);
@@ -102,8 +113,46 @@ fn code_of(alloc: Global, command: &Cmd, args: usize, rets: &[u32]) -> Result<Em
     if flat.vars > 400 {
         return Err(Fault::BadLine);
     }
+    Ok(flat)
+}
+
+/// The code of a command with so many arguments.
+fn code_of(alloc: Global, command: &Cmd, args: usize, rets: &[u32]) -> Result<Emitted, Fault>
+    requires { cmd_size command.now + cmd_weight Weights.LARGE command.now ≤ 200000 }
+{
+    let flat = flat_of(alloc, command, args, rets)?;
     let plan = allocate(alloc, &flat)?;
     Ok(emit(alloc, &flat, &plan)?)
+}
+
+/// Whether the code of a command has fewer instructions with allocated places than with slots alone.
+pub fn compared(alloc: Global, line: &str) -> Result<String, Fault> {
+    let (line, text) = line.split_once("; ").unwrap_or((line, ""));
+    let command = command_of(alloc, text)?;
+    let call = call_of(alloc, line)?;
+    let flat = flat_of(alloc, &command, call.args.len(), call.rets.as_slice())?;
+    let plan = allocate(alloc, &flat)?;
+    let allocated = emit(alloc, &flat, &plan)?.code.len();
+    let plan = slots(alloc, flat.vars)?;
+    if !check_plan(alloc, &flat, &plan)? {
+        return Err(Fault::BadLine);
+    }
+    let alone = emit(alloc, &flat, &plan)?.code.len();
+    let answer = if allocated < alone {
+        "fewer"
+    } else {
+        "no fewer"
+    };
+    Ok(String::from_str(alloc, answer)?)
+}
+
+/// Each of so many variables in the slot of its own number.
+fn slots(alloc: Global, vars: u32) -> Result<Plan, Fault> {
+    let mut places = List::new(alloc);
+    for x in 0..vars {
+        places.push(At::Slot(x))?;
+    }
+    Ok(Plan { places })
 }
 
 /// The bytes of instructions.

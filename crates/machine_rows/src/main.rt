@@ -63,6 +63,7 @@ fn answer(alloc: Global, call: &str) -> Result<String, Fault> {
         b"apply" => meaning::applied(alloc, rest),
         b"exec" => meaning::executed(alloc, rest),
         b"call" => emitted::called(alloc, rest),
+        b"compare" => emitted::compared(alloc, rest),
         _ => Err(Fault::BadLine),
     }
 }

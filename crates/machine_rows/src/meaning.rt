@@ -16,7 +16,12 @@ const LOCALS: u32 = 16;
 /// The text of a command.
 pub fn printed(alloc: Global, text: &str) -> Result<String, Fault> {
     let command = command_of(alloc, text)?;
-    let printed = print_cmd(alloc, &command)?;
+    text_of(alloc, &command)
+}
+
+/// A command as it is printed.
+fn text_of(alloc: Global, command: &Cmd) -> Result<String, Fault> {
+    let printed = print_cmd(alloc, command)?;
     Ok(escaped(alloc, printed.as_slice())?)
 }
 
@@ -69,8 +74,13 @@ fn start_of(alloc: Global, line: &str) -> Result<Start, Fault> {
 /// Runs a command, as `2 v0=7 8=01020304; (seq (set v1 (load1 8)))`: how it ends, and the locals and bytes then.
 pub fn executed(alloc: Global, line: &str) -> Result<String, Fault> {
     let (line, text) = line.split_once("; ").unwrap_or((line, ""));
-    let command = command_of(alloc, text)?;
     let start = start_of(alloc, line)?;
+    ended(alloc, text, start)
+}
+
+/// Runs the command of a text.
+fn ended(alloc: Global, text: &str, start: Start) -> Result<String, Fault> {
+    let command = command_of(alloc, text)?;
     end(alloc, &command, start)
 }
 

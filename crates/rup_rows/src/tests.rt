@@ -14,14 +14,14 @@ file m text (model sum (params (x word) (y word)) (require) (do (let z (add x y)
 file d text {\"block\":1,\"deriv\":1,\"model\":\"sum\",\"nodes\":[[\"s-let\",[2],[]],[\"e-op\",[],[]],[\"e-var\",[],[]],[\"e-var\",[],[]]]}
 keep image
 = status 0
-= out 1 kept, 160 bytes
+= out 1 kept, 136 bytes
 = notes 1 replay: nodes 4 locals 3 depth 2 weight 59 bound 59\\n";
 
 const RUN: &str = "the image is run
 words run image 40 2
 = status 0
 = out 1 0000002a\\n
-= notes 1 run: returned in 16 steps, bound 59\\n";
+= notes 1 run: returned in 10 steps, bound 59\\n";
 
 const EVAL: &str = "the model is evaluated
 words eval m 40 2

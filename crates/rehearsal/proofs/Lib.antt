@@ -1,0 +1,4 @@
+mod Nodes
+mod Valid
+mod Measured
+mod Computed

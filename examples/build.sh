@@ -1,7 +1,7 @@
 #!/usr/bin/env bash
 # Builds the program `rup` where it isn't built, or where a source is newer than it: proves every crate below it and then
-# the program, and says which crate it is at. From nothing that takes the time of every proof: some twenty minutes on four
-# processors. What the kit said stays in examples/build.log. With the word `look` it builds nothing, and its status says
+# the program, and says which crate it is at. From nothing that takes the time of every proof: about an hour of one
+# processor. What the kit said stays in examples/build.log. With the word `look` it builds nothing, and its status says
 # whether the program is there as the sources are.
 set -euo pipefail
 top="$(cd "$(dirname "$0")/.." && pwd)"

@@ -1,9 +1,10 @@
 #!/usr/bin/env bash
 # Runs each example on the proved program, which examples/build.sh builds where it has to: a model with a derivation is
-# replayed, and its image is run on the arguments of each case; every model is evaluated on them. A line of `cases` is
-# arguments, ` = `, and the results that are wanted. Where the command's text and the image stand in the folder, they are what
-# `code` and `replay` write. A folder may have a script `check` of its own, which gets the
-# program's path; where it ends with status 77, its tools aren't there, and it counts as passed.
+# replayed, and its image is run on the arguments of each case; every model is evaluated on them. Every model is compiled too:
+# where the search finds a derivation, its image is run on each case, and else the line says where it is stuck. A line of
+# `cases` is arguments, ` = `, and the results that are wanted. Where the command's text and the image stand in the folder, they
+# are what `code` and `replay` write. A folder may have a script `check` of its own, which gets the program's path; where it
+# ends with status 77, its tools aren't there, and it counts as passed.
 set -euo pipefail
 top="$(cd "$(dirname "$0")/.." && pwd)"
 rup="$top/crates/rup/out/rup"
@@ -11,8 +12,9 @@ rup="$top/crates/rup/out/rup"
 
 answers=0
 wrong=0
-image="$(mktemp)"
-trap 'rm -f "$image"' EXIT
+work="$(mktemp -d)"
+trap 'rm -rf "$work"' EXIT
+image="$work/image"
 
 # what was done, what is wanted, what came
 compare() {
@@ -32,6 +34,16 @@ for folder in "$top"/examples/*/; do
   name="$(basename "$folder")"
   model="$folder$name.model"
   derivation="$folder$name.deriv"
+  found="$work/found"
+  if [ -e "$model" ]; then
+    note="$("$rup" compile "$model" 2>&1 >"$found.deriv")" || true
+    echo "$name: compile: ${note#compile: }"
+    rm -f "$found.image"
+    if [ -s "$found.deriv" ]; then
+      note="$("$rup" replay "$model" "$found.deriv" 2>&1 >"$found.image")" || true
+      echo "$name: compiled, $note"
+    fi
+  fi
   if [ -e "$derivation" ]; then
     note="$("$rup" replay "$model" "$derivation" 2>&1 >"$image")" || true
     echo "$name: $note"
@@ -47,6 +59,10 @@ for folder in "$top"/examples/*/; do
     wanted="${line##*= }"
     if [ -e "$derivation" ]; then
       compare "$name: run ${arguments[*]}" "$wanted" "$(results run "$image" ${arguments[@]+"${arguments[@]}"} || true)"
+    fi
+    if [ -e "$found.image" ]; then
+      compare "$name: compiled, run ${arguments[*]}" "$wanted" \
+        "$(results run "$found.image" ${arguments[@]+"${arguments[@]}"} || true)"
     fi
     compare "$name: eval ${arguments[*]}" "$wanted" "$(results eval "$model" ${arguments[@]+"${arguments[@]}"} || true)"
   done < <(if [ -e "$folder/cases" ]; then cat "$folder/cases"; fi)

@@ -1,5 +1,6 @@
 -- The layout of an image has no wrong field, and says the image.
-use Rattle.std.proofs.Common.{◌≡◌, ℕ, zero, suc, ◌+◌, ◌-◌, ◌*◌, ◌%◌, ◌≤◌, true, List, [], ◌∷◌, ◌++◌, length, get_or, take, drop, replicate, Option, Some, None, ℤ, refl, sym, ap, ◌∙◌, append_assoc, arith}
+use Rattle.std.proofs.Common.{◌≡◌, ℕ, zero, suc, ◌+◌, ◌-◌, ◌*◌, ◌%◌, ◌≤◌, true, List, [], ◌∷◌, ◌++◌, length, get_or, take, drop}
+use Rattle.std.proofs.Common.{replicate, Option, Some, None, ℤ, refl, sym, ap, ◌∙◌, append_assoc, arith}
 use Rattle.std.specs.List.{flat_map, AllByRecursion}
 use Rattle.std.specs.Int.{w32, from_le_bytes, next_multiple_of}
 use Rattle.std.proofs.Math.Seq.{take-length}
@@ -10,12 +11,17 @@ use Rattle.side_certs.specs.LinearForm.{LinearForm}
 use Rattle.side_certs.proofs.laws.Terms.{both}
 use Rattle.cost_poly.specs.declared.term.Term.{Term}
 use Rattle.image_layout.specs.declared.image.Image.{Image}
-use Rattle.image_layout.specs.Spelling.{symbol_count, number, long, wide, parameter, form_term, requirement, symbol, bound_term, lists, code_offset, header_length, fixed_numbers, spelling, image_length, IsRequirement, IsWithinLimits, Layout}
-use Rattle.image_layout.specs.Reading.{field, first_wrong, word_at, fields_of, parameters, requirements, forms, results, bound_terms, params_of, params_end, requires_of, requires_end, rets_of, rets_end, bound_of, header_end, mark, all_zeros, image_of}
+use Rattle.image_layout.specs.Spelling.{symbol_count, number, long, wide, parameter, form_term, requirement, symbol, bound_term}
+use Rattle.image_layout.specs.Spelling.{lists, code_offset, header_length, fixed_numbers, spelling, image_length, IsRequirement}
+use Rattle.image_layout.specs.Spelling.{IsWithinLimits, Layout}
+use Rattle.image_layout.specs.Reading.{field, first_wrong, word_at, fields_of, parameters, requirements, forms, results}
+use Rattle.image_layout.specs.Reading.{bound_terms, params_of, params_end, requires_of, requires_end, rets_of, rets_end, bound_of}
+use Rattle.image_layout.specs.Reading.{header_end, mark, all_zeros, image_of}
 use Rattle.image_layout.proofs.Listed.{symbols_few}
 use Rattle.image_layout.proofs.Stands.{field_made, AllFit, IsAgain, list_again, word_again}
 use Rattle.image_layout.proofs.Steps.{ParamFits, FormFits, RetFits, BoundFits, param_again, form_again, ret_again, bound_again}
-use Rattle.image_layout.proofs.Limits.{params_fit, params_few, forms_fit, terms_few, rets_fit, rets_few, bound_fit, bound_few, nothing_seen}
+use Rattle.image_layout.proofs.Limits.{params_fit, params_few, forms_fit, terms_few, rets_fit, rets_few, bound_fit, bound_few}
+use Rattle.image_layout.proofs.Limits.{nothing_seen}
 use Rattle.image_layout.proofs.Rights.{Right}
 use Rattle.image_layout.proofs.Found.{words, IsWord, four, behind}
 
@@ -44,11 +50,14 @@ length-terms (t ∷ ts) =
 
 length-requirement : (f : LinearForm) → length (requirement f) ≡ 12 + 12 * length f.terms
 length-requirement f =
-    let inner : length (number (length f.terms) ++ flat_map form_term f.terms) ≡ 4 + length (flat_map form_term f.terms) = length-append (number (length f.terms)) (flat_map form_term f.terms) in
-    let outer : length (requirement f) ≡ 8 + length (number (length f.terms) ++ flat_map form_term f.terms) = length-append (long f.constant) (number (length f.terms) ++ flat_map form_term f.terms) in
+    let inner : length (number (length f.terms) ++ flat_map form_term f.terms) ≡ 4 + length (flat_map form_term f.terms) =
+    length-append (number (length f.terms)) (flat_map form_term f.terms) in
+    let outer : length (requirement f) ≡ 8 + length (number (length f.terms) ++ flat_map form_term f.terms) =
+    length-append (long f.constant) (number (length f.terms) ++ flat_map form_term f.terms) in
     omega (arith, inner, outer, length-terms f.terms)
 
-length-forms : (count : ℕ) (fs : List LinearForm) → count ≤ 8 → AllByRecursion (IsRequirement count) fs → length (flat_map requirement fs) ≤ 108 * length fs
+length-forms : (count : ℕ) (fs : List LinearForm) → count ≤ 8 → AllByRecursion (IsRequirement count) fs
+    → length (flat_map requirement fs) ≤ 108 * length fs
 length-forms count [] few limits = omega arith
 length-forms count (f ∷ fs) few limits =
     let rest : length (flat_map requirement fs) ≤ 108 * length fs = length-forms count fs few limits.1 in
@@ -69,8 +78,18 @@ length-bound : (ts : List Term) → length (flat_map bound_term ts) ≡ 16 * len
 length-bound [] = refl
 length-bound (t ∷ ts) =
     let rest : length (flat_map bound_term ts) ≡ 16 * length ts = length-bound ts in
-    let inner : length (symbol t.second ++ wide t.coefficient) ≡ length (symbol t.second) + 8 = length-append (symbol t.second) (wide t.coefficient) in
-    omega (arith, rest, inner, length-symbol t.first, length-symbol t.second, length-append (symbol t.first) (symbol t.second ++ wide t.coefficient), length-append (bound_term t) (flat_map bound_term ts))
+    let inner : length (symbol t.second ++ wide t.coefficient)
+    ≡ length (symbol t.second) + 8 = length-append (symbol t.second) (wide t.coefficient) in
+    omega (
+      arith,
+      rest,
+      inner,
+      length-symbol t.first,
+      length-symbol t.second,
+      length-append (symbol t.first)
+          (symbol t.second ++ wide t.coefficient),
+      length-append (bound_term t) (flat_map bound_term ts),
+    )
 
 record Few (i : Image) : Type 0 where
   symbols : symbol_count i.params ≤ 8
@@ -89,12 +108,20 @@ few_are i w =
     let b = flat_map requirement i.requires_ in
     let d = flat_map symbol i.rets in
     let e = flat_map bound_term i.bound in
-    let all : length (lists i) ≡ length a + (length b + (length d + length e)) = omega (arith, length-append a (b ++ (d ++ e)), length-append b (d ++ e), length-append d e) in
-    let forms_most : length b ≤ 108 * length i.requires_ = length-forms (symbol_count i.params) i.requires_ symbols w.requires_fit in
+    let all : length (lists i) ≡ length a + (length b + (length d + length e)) =
+    omega (arith, length-append a (b ++ (d ++ e)), length-append b (d ++ e), length-append d e) in
+    let forms_most : length b ≤ 108 * length i.requires_ = length-forms (symbol_count i.params) i.requires_ symbols w.requires_fit
+    in
     let params_size : length a ≡ 8 * length i.params = length-params i.params in
     let rets_size : length d ≡ 4 * length i.rets = length-rets i.rets in
     let bound_size : length e ≡ 16 * length i.bound = length-bound i.bound in
-    record { symbols = symbols; params = params; rets = rets; bound = bound; header = omega (arith, all, forms_most, params_size, rets_size, bound_size, params, rets, bound, w.requires_most) }
+    record {
+      symbols = symbols;
+      params = params;
+      rets = rets;
+      bound = bound;
+      header = omega (arith, all, forms_most, params_size, rets_size, bound_size, params, rets, bound, w.requires_most);
+    }
 
 near : (n : ℕ) → next_multiple_of n 16 ≤ n + 16
 near n = omega arith
@@ -115,7 +142,13 @@ numbers_fit i w few =
                 omega (arith, offset, w.entry_below, w.code_most),
                 (
                   omega (arith, w.stack_most),
-                  (omega (arith, few.params), (omega (arith, w.requires_most), (omega (arith, few.rets), (omega (arith, few.bound), tt)))),
+                  (
+                    omega (arith, few.params),
+                    (
+                      omega (arith, w.requires_most),
+                      (omega (arith, few.rets), (omega (arith, few.bound), tt)),
+                    ),
+                  ),
                 ),
               ),
             ),
@@ -158,7 +191,8 @@ numbers_again i bytes w few is =
     let rest = lists i ++ tail i in
     let split : drop 0 bytes ≡ number (from_le_bytes w32 mark) ++ (ns ++ rest) = is ∙ append_assoc mark ns rest in
     let m = word_again bytes (ns ++ rest) 0 (from_le_bytes w32 mark) (omega arith) split in
-    let ws = list_again bytes (words bytes) number IsWord (words_again bytes) [] (fixed_numbers i) 4 rest (numbers_fit i w few) m.2 in
+    let ws = list_again bytes (words bytes) number IsWord (words_again bytes) [] (fixed_numbers i) 4 rest (numbers_fit i w few)
+    m.2 in
     record {
       marked = m.0;
       version = ap (λ (xs : List ℕ). get_or xs 0 0) ws.1;
@@ -180,7 +214,8 @@ numbers_again i bytes w few is =
 record ParamsAgain (i : Image) (bytes : List ℕ) : Type 0 where
   right : first_wrong (fields_of (parameters bytes) [] (word_at bytes 32) 48) ≡ None
   are : params_of bytes ≡ i.params
-  behind_them : drop (params_end bytes) bytes ≡ flat_map requirement i.requires_ ++ (flat_map symbol i.rets ++ (flat_map bound_term i.bound ++ tail i))
+  behind_them : drop (params_end bytes) bytes
+      ≡ flat_map requirement i.requires_ ++ (flat_map symbol i.rets ++ (flat_map bound_term i.bound ++ tail i))
 
 params_again : (i : Image) (bytes : List ℕ) → IsWithinLimits i → Numbers i bytes → ParamsAgain i bytes
 unfolding params_of params_end
@@ -189,8 +224,10 @@ params_again i bytes w n =
     let d = flat_map symbol i.rets in
     let e = flat_map bound_term i.bound in
     let count = n.params in
-    let split : drop 48 bytes ≡ flat_map parameter i.params ++ (b ++ (d ++ (e ++ tail i))) = n.behind_them ∙ sym (four (flat_map parameter i.params) b d e (tail i)) in
-    let p = list_again bytes (parameters bytes) parameter ParamFits (param_again bytes) [] i.params 48 (b ++ (d ++ (e ++ tail i))) (params_fit [] i.params w.params_fit (omega (arith, w.registers_most))) split in
+    let split : drop 48 bytes ≡ flat_map parameter i.params ++ (b ++ (d ++ (e ++ tail i))) =
+    n.behind_them ∙ sym (four (flat_map parameter i.params) b d e (tail i)) in
+    let p = list_again bytes (parameters bytes) parameter ParamFits (param_again bytes) [] i.params 48 (b ++ (d ++ (e ++ tail i)))
+    (params_fit [] i.params w.params_fit (omega (arith, w.registers_most))) split in
     record { right = rw count p.0; are = rw count p.1; behind_them = rw count p.2 }
 
 record FormsAgain (i : Image) (bytes : List ℕ) : Type 0 where
@@ -204,7 +241,8 @@ forms_again i bytes w few n ps =
     let count = n.requires_ in
     let kinds = ps.are in
     let k = symbol_count i.params in
-    let p = list_again bytes (requirements k bytes) requirement (FormFits k) (form_again bytes k few.symbols) [] i.requires_ (params_end bytes) (flat_map symbol i.rets ++ (flat_map bound_term i.bound ++ tail i))
+    let p = list_again bytes (requirements k bytes) requirement (FormFits k) (form_again bytes k few.symbols) [] i.requires_
+    (params_end bytes) (flat_map symbol i.rets ++ (flat_map bound_term i.bound ++ tail i))
     (forms_fit k [] i.requires_ few.symbols w.requires_fit) ps.behind_them in
     record { right = rw (kinds, count) p.0; are = rw (kinds, count) p.1; behind_them = rw (kinds, count) p.2 }
 
@@ -213,27 +251,32 @@ record RetsAgain (i : Image) (bytes : List ℕ) : Type 0 where
   are : rets_of bytes ≡ i.rets
   behind_them : drop (rets_end bytes) bytes ≡ flat_map bound_term i.bound ++ tail i
 
-rets_again : (i : Image) (bytes : List ℕ) → IsWithinLimits i → Few i → Numbers i bytes → ParamsAgain i bytes → FormsAgain i bytes → RetsAgain i bytes
+rets_again : (i : Image) (bytes : List ℕ) → IsWithinLimits i → Few i → Numbers i bytes → ParamsAgain i bytes → FormsAgain i bytes
+    → RetsAgain i bytes
 unfolding rets_of rets_end
 rets_again i bytes w few n ps fs =
     let count = n.rets in
     let kinds = ps.are in
-    let p = list_again bytes (results i.params bytes) symbol (RetFits i.params) (ret_again bytes i.params) [] i.rets (requires_end bytes) (flat_map bound_term i.bound ++ tail i)
+    let p = list_again bytes (results i.params bytes) symbol (RetFits i.params) (ret_again bytes i.params) [] i.rets
+    (requires_end bytes) (flat_map bound_term i.bound ++ tail i)
     (rets_fit i.params 2 [] [] i.rets few.params refl nothing_seen w.rets_fit) fs.behind_them in
     record { right = rw (kinds, count) p.0; are = rw (kinds, count) p.1; behind_them = rw (kinds, count) p.2 }
 
 record BoundAgain (i : Image) (bytes : List ℕ) : Type 0 where
-  right : first_wrong (fields_of (bound_terms (symbol_count (params_of bytes)) bytes) [] (word_at bytes 44) (rets_end bytes)) ≡ None
+  right : first_wrong (fields_of (bound_terms (symbol_count (params_of bytes)) bytes) [] (word_at bytes 44) (rets_end bytes))
+      ≡ None
   are : bound_of bytes ≡ i.bound
   behind_them : drop (header_end bytes) bytes ≡ tail i
 
-bound_again_ : (i : Image) (bytes : List ℕ) → IsWithinLimits i → Few i → Numbers i bytes → ParamsAgain i bytes → RetsAgain i bytes → BoundAgain i bytes
+bound_again_ : (i : Image) (bytes : List ℕ) → IsWithinLimits i → Few i → Numbers i bytes → ParamsAgain i bytes → RetsAgain i bytes
+    → BoundAgain i bytes
 unfolding bound_of header_end
 bound_again_ i bytes w few n ps rs =
     let count = n.bound in
     let kinds = ps.are in
     let k = symbol_count i.params in
-    let p = list_again bytes (bound_terms k bytes) bound_term (BoundFits k) (bound_again bytes k) [] i.bound (rets_end bytes) (tail i) (bound_fit k [] i.bound few.symbols w.bound_fits) rs.behind_them in
+    let p = list_again bytes (bound_terms k bytes) bound_term (BoundFits k) (bound_again bytes k) [] i.bound (rets_end bytes)
+    (tail i) (bound_fit k [] i.bound few.symbols w.bound_fits) rs.behind_them in
     record { right = rw (kinds, count) p.0; are = rw (kinds, count) p.1; behind_them = rw (kinds, count) p.2 }
 
 -- Behind the lists.
@@ -253,21 +296,35 @@ record TailAgain (i : Image) (bytes : List ℕ) : Type 0 where
 
 tail_again : (i : Image) (bytes : List ℕ) → IsWithinLimits i → Numbers i bytes → BoundAgain i bytes → TailAgain i bytes
 tail_again i bytes w n b =
-    let sizes : length (drop 48 bytes) ≡ length (lists i) + length (tail i) = ap length n.behind_them ∙ length-append (lists i) (tail i) in
+    let sizes : length (drop 48 bytes) ≡ length (lists i) + length (tail i) =
+    ap length n.behind_them ∙ length-append (lists i) (tail i) in
     let left : length (drop (header_end bytes) bytes) ≡ length (tail i) = ap length b.behind_them in
     let parts : length (tail i) ≡ (code_offset i - header_length i) + (length i.code + length i.tables) =
-    omega (arith, length-append (zeros i) (i.code ++ i.tables), length-append i.code i.tables, length-replicate {A = ℕ} (code_offset i - header_length i) 0) in
-    let header : header_end bytes ≡ header_length i = omega (arith, sizes, left, parts, w.code_some, length-drop 48 bytes, length-drop (header_end bytes) bytes) in
+    omega (
+      arith,
+      length-append (zeros i) (i.code ++ i.tables),
+      length-append i.code i.tables,
+      length-replicate {A = ℕ}
+          (code_offset i - header_length i) 0,
+    ) in
+    let header : header_end bytes ≡ header_length i =
+    omega (arith, sizes, left, parts, w.code_some, length-drop 48 bytes, length-drop (header_end bytes) bytes) in
     let from : header_length i ≤ code_offset i = behind (header_length i) in
     let gap : word_at bytes 12 - header_end bytes ≡ code_offset i - header_length i = omega (arith, header, n.offset) in
-    let offset_is : header_end bytes + (code_offset i - header_length i) ≡ word_at bytes 12 = omega (arith, header, n.offset, from) in
-    let zeros_size : length (zeros i) ≡ code_offset i - header_length i = length-replicate {A = ℕ} (code_offset i - header_length i) 0 in
-    let filling : take (word_at bytes 12 - header_end bytes) (drop (header_end bytes) bytes) ≡ zeros i = rw (b.behind_them, gap) (take_at (zeros i) (i.code ++ i.tables) (code_offset i - header_length i) zeros_size) in
+    let offset_is : header_end bytes + (code_offset i - header_length i)
+    ≡ word_at bytes 12 = omega (arith, header, n.offset, from) in
+    let zeros_size : length (zeros i) ≡ code_offset i - header_length i =
+    length-replicate {A = ℕ} (code_offset i - header_length i) 0 in
+    let filling : take (word_at bytes 12 - header_end bytes) (drop (header_end bytes) bytes)
+    ≡ zeros i = rw (b.behind_them, gap)
+    (take_at (zeros i) (i.code ++ i.tables) (code_offset i - header_length i) zeros_size) in
     let code_stands : drop (word_at bytes 12) bytes ≡ i.code ++ i.tables =
     ap (λ (k : ℕ). drop k bytes) (sym offset_is) ∙ sym (drop-drop (code_offset i - header_length i) (header_end bytes) bytes)
-    ∙ ap (drop (code_offset i - header_length i)) b.behind_them ∙ drop_at (zeros i) (i.code ++ i.tables) (code_offset i - header_length i) zeros_size in
+    ∙ ap (drop (code_offset i - header_length i)) b.behind_them
+    ∙ drop_at (zeros i) (i.code ++ i.tables) (code_offset i - header_length i) zeros_size in
     let tables_stand : drop (word_at bytes 12 + word_at bytes 16) bytes ≡ i.tables =
-    sym (drop-drop (word_at bytes 16) (word_at bytes 12) bytes) ∙ ap (drop (word_at bytes 16)) code_stands ∙ drop_at i.code i.tables (word_at bytes 16) (sym n.code) in
+    sym (drop-drop (word_at bytes 16) (word_at bytes 12) bytes) ∙ ap (drop (word_at bytes 16)) code_stands
+    ∙ drop_at i.code i.tables (word_at bytes 16) (sym n.code) in
     let tables_size = n.tables in
     record {
       fixed = omega (arith, sizes, parts, w.code_some, length-drop 48 bytes);
@@ -295,7 +352,8 @@ layout_again i bytes layout =
     let rs = rets_again i bytes w few n ps fs in
     let b = bound_again_ i bytes w few n ps rs in
     let t = tail_again i bytes w n b in
-    let offset : word_at bytes 12 ≡ next_multiple_of (header_end bytes) 16 = n.offset ∙ ap (λ (k : ℕ). next_multiple_of k 16) (sym t.header) in
+    let offset : word_at bytes 12 ≡ next_multiple_of (header_end bytes) 16 =
+    n.offset ∙ ap (λ (k : ℕ). next_multiple_of k 16) (sym t.header) in
     record {
       right = record {
         fixed = t.fixed;
@@ -322,11 +380,25 @@ layout_again i bytes layout =
         ends = omega (arith, n.offset, n.code, n.tables, t.size);
       };
       from = omega (arith, t.header, t.from, n.offset);
-      is = image_made i (word_at bytes 4) (word_at bytes 24) (word_at bytes 28) (params_of bytes) (requires_of bytes) (rets_of bytes) (bound_of bytes) (take (word_at bytes 16) (drop (word_at bytes 12) bytes))
-          (take (word_at bytes 20) (drop (word_at bytes 12 + word_at bytes 16) bytes)) n.version n.entry n.stack ps.are fs.are rs.are b.are t.code t.tables;
+      is = image_made i (word_at bytes 4) (word_at bytes 24) (word_at bytes 28) (params_of bytes) (requires_of bytes)
+          (rets_of bytes) (bound_of bytes) (take (word_at bytes 16) (drop (word_at bytes 12) bytes))
+          (take (word_at bytes 20) (drop (word_at bytes 12 + word_at bytes 16) bytes)) n.version n.entry n.stack ps.are fs.are
+          rs.are b.are t.code t.tables;
     }
   where
-    image_made : (i : Image) (version entry stack : ℕ) (params : List Kind) (requires_ : List LinearForm) (rets : List (Option ℕ)) (bound : List Term) (code tables : List ℕ) → version ≡ i.version → entry ≡ i.entry → stack ≡ i.stack
+    image_made : (i : Image) (version entry stack : ℕ) (params : List Kind) (requires_ : List LinearForm) (rets : List (Option ℕ))
+        (bound : List Term) (code tables : List ℕ) → version ≡ i.version → entry ≡ i.entry → stack ≡ i.stack
         → params ≡ i.params → requires_ ≡ i.requires_ → rets ≡ i.rets → bound ≡ i.bound → code ≡ i.code → tables ≡ i.tables
-        → record { version = version; params = params; requires_ = requires_; rets = rets; bound = bound; entry = entry; stack = stack; code = code; tables = tables } ≡ i
-    image_made i version entry stack params requires_ rets bound code tables a b d e f g h j k = rw (a, b, d, e, f, g, h, j, k) refl
+        → record {
+          version = version;
+          params = params;
+          requires_ = requires_;
+          rets = rets;
+          bound = bound;
+          entry = entry;
+          stack = stack;
+          code = code;
+          tables = tables;
+        } ≡ i
+    image_made i version entry stack params requires_ rets bound code tables a b d e f g h j k =
+        rw (a, b, d, e, f, g, h, j, k) refl

@@ -1,6 +1,8 @@
 -- What the bytes of an image say, and the fields that are judged, in the order in which they are. What they say is told
 -- by the numbers at their offsets, whether they are right or not.
-use Rattle.std.specs.Prelude.{ℕ, zero, suc, ◌+◌, ◌-◌, ◌*◌, ◌%◌, Bool, true, false, not, ◌&&◌, ◌||◌, List, [], ◌∷◌, ◌++◌, length, take, drop, Option, Some, None, Result, Ok, Err, ℤ, pos, nat_eq, nat_lt, nat_le, sum_by, slice_get, if◌then◌else◌}
+use Rattle.std.specs.Prelude.{ℕ, zero, suc, ◌+◌, ◌-◌, ◌*◌, ◌%◌, Bool, true, false, not, ◌&&◌, ◌||◌, List, [], ◌∷◌, ◌++◌, length}
+use Rattle.std.specs.Prelude.{take, drop, Option, Some, None, Result, Ok, Err, ℤ, pos, nat_eq, nat_lt, nat_le, sum_by, slice_get}
+use Rattle.std.specs.Prelude.{if◌then◌else◌}
 use Rattle.std.specs.Ordering.{int_eq}
 use Rattle.std.specs.Int.{w32, w64, from_le_bytes, cast_signed, next_multiple_of}
 use Rattle.rup_base.specs.declared.arg.Kind.{Kind}
@@ -11,8 +13,8 @@ use Rattle.side_certs.specs.LinearForm.{LinearForm, is_small}
 use Rattle.cost_poly.specs.declared.term.Term.{Term}
 use Rattle.cost_poly.specs.Polynomial.{goes_behind, greatest_coefficient}
 use Rattle.image_layout.specs.declared.image.Image.{Image}
-use Rattle.image_layout.specs.declared.reading.Counts.{Counts}
-use Rattle.image_layout.specs.declared.reading.Lists.{Lists}
+use Rattle.image_layout.specs.declared.reading.lists.Counts.{Counts}
+use Rattle.image_layout.specs.declared.reading.lists.Lists.{Lists}
 use Rattle.image_layout.specs.Spelling.{registers_of, is_array, symbol_count}
 
 -- The fields.
@@ -103,7 +105,11 @@ abbrev pub parameter_at : List ℕ → ℕ → Kind
 parameter_at bytes at = kind_of (word_at bytes at) (word_at bytes (at + 4))
 
 abbrev pub parameters : List ℕ → Entries Kind
-parameters bytes = record { fields = λ before at. parameter_fields bytes (sum_by registers_of before) at; value = parameter_at bytes; size = λ kind. 8 }
+parameters bytes = record {
+  fields = λ before at. parameter_fields bytes (sum_by registers_of before) at;
+  value = parameter_at bytes;
+  size = λ kind. 8;
+}
 
 -- A term of a requirement is a symbol, which is below the count and after the one before it, and a coefficient.
 
@@ -121,7 +127,11 @@ abbrev pub term_at : List ℕ → ℕ → ℕ × ℤ
 term_at bytes at = (word_at bytes at, long_at bytes (at + 4))
 
 abbrev pub terms : ℕ → List ℕ → Entries (ℕ × ℤ)
-terms count bytes = record { fields = λ before at. term_fields count bytes (next_symbol 0 before) at; value = term_at bytes; size = λ term. 12 }
+terms count bytes = record {
+  fields = λ before at. term_fields count bytes (next_symbol 0 before) at;
+  value = term_at bytes;
+  size = λ term. 12;
+}
 
 -- A requirement is a constant, a number of terms and the terms.
 
@@ -139,7 +149,11 @@ requirement_at count bytes at = form_of (long_at bytes at) (values_of (terms cou
 
 abbrev pub requirements : ℕ → List ℕ → Entries LinearForm
 requirements count bytes =
-    record { fields = λ before at. requirement_fields count bytes at; value = requirement_at count bytes; size = λ form. 12 + 12 * length form.terms }
+    record {
+      fields = λ before at. requirement_fields count bytes at;
+      value = requirement_at count bytes;
+      size = λ form. 12 + 12 * length form.terms;
+    }
 
 -- A result is a scalar, one of two at most, or the array of a parameter that no result before it is.
 
@@ -237,13 +251,25 @@ header_end bytes = end_of (bound_terms (symbol_count (params_of bytes)) bytes) (
 
 -- the four numbers of entries; there are at most 4,096 requirements
 abbrev pub counts_of : List ℕ → Counts
-counts_of bytes = record { params = word_at bytes 32; requires_ = word_at bytes 36; rets = word_at bytes 40; bound = word_at bytes 44 }
+counts_of bytes = record {
+  params = word_at bytes 32;
+  requires_ = word_at bytes 36;
+  rets = word_at bytes 40;
+  bound = word_at bytes 44;
+}
 
 abbrev pub count_fields : List ℕ → List Field
-count_fields bytes = field bytes 32 4 true ∷ field bytes 36 4 (nat_le (word_at bytes 36) 4_096) ∷ field bytes 40 4 true ∷ field bytes 44 4 true ∷ []
+count_fields bytes = field bytes 32 4 true ∷ field bytes 36 4 (nat_le (word_at bytes 36) 4_096) ∷ field bytes 40 4 true
+    ∷ field bytes 44 4 true ∷ []
 
 unfoldable pub lists_of : List ℕ → Lists
-lists_of bytes = record { params = params_of bytes; requires_ = requires_of bytes; rets = rets_of bytes; bound = bound_of bytes; header = header_end bytes }
+lists_of bytes = record {
+  params = params_of bytes;
+  requires_ = requires_of bytes;
+  rets = rets_of bytes;
+  bound = bound_of bytes;
+  header = header_end bytes;
+}
 
 unfoldable pub list_fields : List ℕ → List Field
 list_fields bytes =
@@ -273,10 +299,12 @@ offset_fields bytes (Some offset) = field bytes 12 4 (nat_eq (word_at bytes 12) 
 -- the entry is judged by the offset of the code as it stands
 abbrev pub entry_field : List ℕ → Field
 entry_field bytes =
-    field bytes 24 4 (nat_eq (word_at bytes 24 % 4) 0 && nat_le (word_at bytes 12) (word_at bytes 24) && nat_lt (word_at bytes 24) (word_at bytes 12 + word_at bytes 16))
+    field bytes 24 4 (nat_eq (word_at bytes 24 % 4) 0 && nat_le (word_at bytes 12) (word_at bytes 24)
+    && nat_lt (word_at bytes 24) (word_at bytes 12 + word_at bytes 16))
 
 abbrev pub code_field : List ℕ → Field
-code_field bytes = field bytes 16 4 (nat_eq (word_at bytes 16 % 4) 0 && nat_le 4 (word_at bytes 16) && nat_le (word_at bytes 16) 1_000_000)
+code_field bytes = field bytes 16 4
+    (nat_eq (word_at bytes 16 % 4) 0 && nat_le 4 (word_at bytes 16) && nat_le (word_at bytes 16) 1_000_000)
 
 abbrev pub tables_field : List ℕ → Field
 tables_field bytes = field bytes 20 4 (nat_le (word_at bytes 20) 131_072)
@@ -301,7 +329,8 @@ rest_fields bytes header =
     filling_field bytes header (word_at bytes 12)
     ∷ field bytes (word_at bytes 12) (word_at bytes 16) true
     ∷ field bytes (word_at bytes 12 + word_at bytes 16) (word_at bytes 20) true
-    ∷ field bytes (word_at bytes 12 + word_at bytes 16 + word_at bytes 20) 0 (nat_le (length bytes) (word_at bytes 12 + word_at bytes 16 + word_at bytes 20))
+    ∷ field bytes (word_at bytes 12 + word_at bytes 16 + word_at bytes 20) 0
+    (nat_le (length bytes) (word_at bytes 12 + word_at bytes 16 + word_at bytes 20))
     ∷ []
 
 -- the offset that the lists ask for, where they are right
@@ -311,7 +340,8 @@ offset_asked bytes (Some wrong) = None
 
 -- the fields that are left where the lists are right
 unfoldable pub rest_of : List ℕ → List Field
-rest_of bytes = offset_fields bytes (Some (next_multiple_of (header_end bytes) 16)) ++ (middle_fields bytes ++ rest_fields bytes (header_end bytes))
+rest_of bytes = offset_fields bytes (Some (next_multiple_of (header_end bytes) 16))
+    ++ (middle_fields bytes ++ rest_fields bytes (header_end bytes))
 
 unfoldable pub fields : List ℕ → List Field
 fields bytes =

@@ -1,6 +1,7 @@
 -- The layout of an image in bytes, version 1, and the limits within which an image has one. An image is what a
 -- device loads and calls.
-use Rattle.std.specs.Prelude.{◌≡◌, ◌≢◌, ℕ, zero, suc, ◌+◌, ◌-◌, ◌%◌, ◌^◌, ◌<◌, ◌≤◌, Bool, true, false, List, [], ◌∷◌, ◌++◌, length, replicate, Option, Some, None, ℤ, pos, nat_abs, sum_by, slice_get, ⊤}
+use Rattle.std.specs.Prelude.{◌≡◌, ◌≢◌, ℕ, zero, suc, ◌+◌, ◌-◌, ◌%◌, ◌^◌, ◌<◌, ◌≤◌, Bool, true, false, List, [], ◌∷◌, ◌++◌}
+use Rattle.std.specs.Prelude.{length, replicate, Option, Some, None, ℤ, pos, nat_abs, sum_by, slice_get, ⊤}
 use Rattle.std.specs.List.{flat_map, AllByRecursion}
 use Rattle.std.specs.Int.{w32, w64, to_le_bytes, cast_unsigned, next_multiple_of}
 use Rattle.rup_base.specs.declared.arg.Kind.{Kind}
@@ -69,7 +70,8 @@ abbrev pub bound_term : Term → List ℕ
 bound_term t = symbol t.first ++ (symbol t.second ++ wide t.coefficient)
 
 abbrev pub lists : Image → List ℕ
-lists i = flat_map parameter i.params ++ (flat_map requirement i.requires_ ++ (flat_map symbol i.rets ++ flat_map bound_term i.bound))
+lists i = flat_map parameter i.params
+    ++ (flat_map requirement i.requires_ ++ (flat_map symbol i.rets ++ flat_map bound_term i.bound))
 
 -- the header is the fixed fields of 48 bytes and the lists; the code begins at the next multiple of 16
 abbrev pub header_length : Image → ℕ
@@ -124,7 +126,8 @@ ResultsFit kinds scalars seen [] = ⊤
 ResultsFit kinds zero seen (None ∷ rets) = ⊥
 ResultsFit kinds (suc scalars) seen (None ∷ rets) = ResultsFit kinds scalars seen rets
 ResultsFit kinds scalars seen (Some p ∷ rets) =
-    ((kind : Kind) × (slice_get kinds p ≡ Some kind) × (is_array kind ≡ true)) × AllByRecursion (λ q. q ≢ p) seen × ResultsFit kinds scalars (p ∷ seen) rets
+    ((kind : Kind) × (slice_get kinds p ≡ Some kind) × (is_array kind ≡ true)) × AllByRecursion (λ q. q ≢ p) seen
+    × ResultsFit kinds scalars (p ∷ seen) rets
 
 pub record IsWithinLimits (i : Image) : Type 0 where
   pub version_is : i.version ≡ 1

@@ -4,7 +4,8 @@ use Rattle.rup_base.specs.Name.{is_name, name_of}
 use Rattle.rup_base.specs.Gather.{all_true}
 use Rattle.rup_base.specs.declared.arg.Place.{Place}
 use Rattle.model_syntax.specs.Names.{same, Name}
-use Rattle.model_syntax.specs.Formed.{numbers_formed, expr_formed, side_formed, fact_formed, facts_formed, names_formed, stmt_formed, param_formed, ret_formed, model_formed}
+use Rattle.model_syntax.specs.Formed.{numbers_formed, expr_formed, side_formed, fact_formed, facts_formed, names_formed}
+use Rattle.model_syntax.specs.Formed.{stmt_formed, param_formed, ret_formed, model_formed}
 use Rattle.model_syntax.specs.Spelling.{Spellable, expr_spellable, stmt_spellable, is_table}
 use Rattle.model_syntax.specs.declared.expr.Scalar.{Scalar}
 use Rattle.model_syntax.specs.declared.expr.Expr.{Expr}

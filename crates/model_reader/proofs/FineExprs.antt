@@ -1,5 +1,6 @@
 -- Expressions and sides that are read are formed, and their tables can be spelled.
-use Rattle.std.proofs.Common.{◌≡◌, refl, sym, ◌∙◌, ap, ℕ, nat_le, Bool, true, List, [], ◌∷◌, map, Ok, Option, Some, None, if◌then◌else◌, codes}
+use Rattle.std.proofs.Common.{◌≡◌, refl, sym, ◌∙◌, ap, ℕ, nat_le, Bool, true, List, [], ◌∷◌, map, Ok, Option, Some, None}
+use Rattle.std.proofs.Common.{if◌then◌else◌, codes}
 use Rattle.std.specs.List.{list_all}
 use Rattle.rup_base.specs.Name.{is_name}
 use Rattle.rup_base.specs.Gather.{all_true}
@@ -21,11 +22,13 @@ use Rattle.model_reader.specs.declared.words.ExprWord.TheVariants as word
 use Rattle.rup_base.specs.Number as numbers
 use Rattle.model_reader.specs.Words.{expr_word}
 use Rattle.model_reader.specs.Parts.{Reading, nth, each, some, wrong, known}
-use Rattle.model_reader.specs.Expressions.{table_scalar, entry, fits, one_of, two_of, length_of, get_of, tab_of, worded_expr, list_expr, atom_expr}
+use Rattle.model_reader.specs.Expressions.{table_scalar, entry, fits, one_of, two_of, length_of, get_of, tab_of, worded_expr}
+use Rattle.model_reader.specs.Expressions.{list_expr, atom_expr}
 use Rattle.model_reader.specs.Facts.{sum_of, scale_of, worded_side, list_side, atom_side, list_fact}
 use Rattle.model_reader.proofs.Gives.{Gives, given, refused, any, ◌⊳◌, tested, All}
 use Rattle.model_reader.proofs.WordNumbers.{IsWord, OfWord, number_is_word}
-use Rattle.model_reader.proofs.Fine.{IsExpr, IsTable, IsSide, IsFact, AreFine, no_more, headed_gives, behind_gives, number_gives, name_part, number_part, expr_part, entries_part, side_part}
+use Rattle.model_reader.proofs.Fine.{IsExpr, IsTable, IsSide, IsFact, AreFine, no_more, headed_gives, behind_gives, number_gives}
+use Rattle.model_reader.proofs.Fine.{name_part, number_part, expr_part, entries_part, side_part}
 
 -- tables
 abbrev Fits : Scalar → ℕ → Type 0

@@ -1,5 +1,6 @@
 -- Statements, parameters, results and models that are read are formed, and their tables can be spelled.
-use Rattle.std.proofs.Common.{◌≡◌, refl, sym, ◌∙◌, ap, ℕ, ◌+◌, Bool, true, List, [], ◌∷◌, Ok, Option, Some, None, if◌then◌else◌, codes}
+use Rattle.std.proofs.Common.{◌≡◌, refl, sym, ◌∙◌, ap, ℕ, ◌+◌, Bool, true, List, [], ◌∷◌, Ok, Option, Some, None, if◌then◌else◌}
+use Rattle.std.proofs.Common.{codes}
 use Rattle.model_syntax.specs.Names.{Name}
 use Rattle.rup_base.specs.Name.{is_name}
 use Rattle.rup_base.specs.declared.arg.Place.{Place}
@@ -20,11 +21,16 @@ use Rattle.model_reader.specs.declared.words.StmtWord.TheVariants as word
 use Rattle.rup_base.specs.Number as numbers
 use Rattle.model_reader.specs.Words.{scalar_of, array_of, stmt_word}
 use Rattle.model_reader.specs.Parts.{Reading, nth, wrong, known}
-use Rattle.model_reader.specs.Statements.{stmt, let_of, put_of, move_of, carried, choice_of, if_of, for_of, range_of, map_of, fold_of, worded_stmt, list_stmt, block_of}
-use Rattle.model_reader.specs.Models.{len, in_word, scalar_param, array_param, atom_sort, array_of_length, list_sort, list_param, params_of, list_ret, atom_ret, rets_of, model_of, list_model, param, ret}
+use Rattle.model_reader.specs.Statements.{stmt, let_of, put_of, move_of, carried, choice_of, if_of, for_of, range_of, map_of}
+use Rattle.model_reader.specs.Statements.{fold_of, worded_stmt, list_stmt, block_of}
+use Rattle.model_reader.specs.Models.{len, in_word, scalar_param, array_param, atom_sort, array_of_length, list_sort, list_param}
+use Rattle.model_reader.specs.Models.{params_of, list_ret, atom_ret, rets_of, model_of, list_model, param, ret}
 use Rattle.model_reader.proofs.Gives.{Gives, given, refused, any, ◌⊳◌, tested, weaker, All}
 use Rattle.model_reader.proofs.WordNumbers.{OfWord, number_is_word}
-use Rattle.model_reader.proofs.Fine.{IsName, AreNames, AreFacts, IsExpr, IsStmt, AreStmts, IsParam, AreParams, IsRet, AreRets, IsModel, AreFine, no_more, each_gives, each_passes, headed_gives, behind_gives, known_name, nth_gives, name_part, expr_part, keep_part, names_part, element_part, block_part, sort_part, params_part, requires_part, rets_part}
+use Rattle.model_reader.proofs.Fine.{IsName, AreNames, AreFacts, IsExpr, IsStmt, AreStmts, IsParam, AreParams, IsRet, AreRets}
+use Rattle.model_reader.proofs.Fine.{IsModel, AreFine, no_more, each_gives, each_passes, headed_gives, behind_gives, known_name}
+use Rattle.model_reader.proofs.Fine.{nth_gives, name_part, expr_part, keep_part, names_part, element_part, block_part, sort_part}
+use Rattle.model_reader.proofs.Fine.{params_part, requires_part, rets_part}
 
 layer : (y : Stmt-F Stmt) {a : Stmt} → roll-Stmt y ≡ a → stmt_spellable_step (map-Stmt Stmt Bool stmt_spellable y) ≡ true
     → stmt_formed_step (map-Stmt Stmt Bool stmt_formed y) ≡ true → IsStmt a

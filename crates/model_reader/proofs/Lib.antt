@@ -1,3 +1,4 @@
+pub mod Blocks
 pub mod Fine
 pub mod FineExprs
 pub mod FineStmts

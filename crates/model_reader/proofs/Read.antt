@@ -16,9 +16,12 @@ use Rattle.model_reader.specs.Models.{model, whole}
 use Rattle.model_reader.specs.Reading.{reading, atom_reading, list_reading}
 use Rattle.model_reader.proofs.laws.Readings.{reading-Atom, reading-Kids}
 use Rattle.model_reader.proofs.Gives.{Gives, given, refused, ◌⊳◌}
-use Rattle.model_reader.proofs.Fine.{IsFine, AreFine, no_more, IsExpr, IsFact, IsModel, AreFacts, name_gives, name_part, each_passes, behind_gives, nth_gives}
-use Rattle.model_reader.proofs.FineExprs.{atom_expr_gives, list_expr_gives, table_gives, atom_side_gives, list_side_gives, list_fact_gives}
-use Rattle.model_reader.proofs.FineStmts.{list_stmt_gives, block_gives, atom_sort_gives, list_sort_gives, list_param_gives, params_gives, atom_ret_gives, list_ret_gives, rets_gives, list_model_gives}
+use Rattle.model_reader.proofs.Fine.{IsFine, AreFine, no_more, IsExpr, IsFact, IsModel, AreFacts, name_gives, name_part}
+use Rattle.model_reader.proofs.Fine.{each_passes, behind_gives, nth_gives}
+use Rattle.model_reader.proofs.FineExprs.{atom_expr_gives, list_expr_gives, table_gives, atom_side_gives, list_side_gives}
+use Rattle.model_reader.proofs.FineExprs.{list_fact_gives}
+use Rattle.model_reader.proofs.FineStmts.{list_stmt_gives, block_gives, atom_sort_gives, list_sort_gives, list_param_gives}
+use Rattle.model_reader.proofs.FineStmts.{params_gives, atom_ret_gives, list_ret_gives, rets_gives, list_model_gives}
 
 atom_fine : (p : Place) (t : List ℕ) → IsFine (atom_reading p t)
 atom_fine p t = record {

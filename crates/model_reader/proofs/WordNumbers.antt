@@ -1,5 +1,6 @@
 -- A number that bytes spell is a word.
-use Rattle.std.proofs.Common.{◌≡◌, refl, subst, ℕ, nat_eq, nat_le, ◌&&◌, Bool, true, false, List, [], ◌∷◌, length, Option, Some, None, if◌then◌else◌}
+use Rattle.std.proofs.Common.{◌≡◌, refl, subst, ℕ, nat_eq, nat_le, ◌&&◌, Bool, true, false, List, [], ◌∷◌, length, Option, Some}
+use Rattle.std.proofs.Common.{None, if◌then◌else◌}
 use Rattle.std.specs.Char.{is_digit}
 use Rattle.std.specs.Str.Parse.{digits_value_after}
 use Rattle.std.specs.List.{list_all}

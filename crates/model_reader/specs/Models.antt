@@ -16,7 +16,8 @@ use Rattle.model_syntax.specs.declared.program.Model.{Model}
 use Rattle.rup_base.specs.Number as numbers
 use Rattle.model_reader.specs.Words.{scalar_of, array_of}
 use Rattle.model_reader.specs.Statements.{block}
-use Rattle.model_reader.specs.Parts.{Answer, Reading, Kind, Rule, ◌>>=◌, wrong, nth, end, headed, behind, each, alone, name, known, word}
+use Rattle.model_reader.specs.Parts.{Answer, Reading, Kind, Rule, ◌>>=◌, wrong, nth, end, headed, behind, each, alone, name}
+use Rattle.model_reader.specs.Parts.{known, word}
 
 -- LEN
 abbrev pub len : Kind Len

@@ -93,6 +93,10 @@ end i [] = Ok tt
 end zero (f ∷ fs) = wrong f.at
 end (suc i) (f ∷ fs) = end i fs
 
+-- a value, where no form with this number is left
+abbrev pub finished : {A : Type 0} → A → ℕ → List Reading → Answer A
+finished a i fs = end i fs >>= λ _. Ok a
+
 -- each form, as one kind
 abbrev pub each : {F A : Type 0} → (F → Answer A) → List F → Answer (List A)
 each kind [] = Ok []

@@ -5,10 +5,10 @@ ghost use Rattle.model_reader.specs.Parts as parts;
 ghost use Rattle.model_reader.specs.Expressions as spec;
 ghost use Rattle.model_reader.specs.Reading.{reading};
 
-use crate::names::read_name;
+use crate::names::name_at;
 use crate::numbers::read_number;
 use crate::parts::{
-    Misread, end, form_at, headed, kids_of, known, missing, place_of, text_of, wrong,
+    Misread, finished, form_at, headed, kids_of, known, missing, place_of, text_of, wrong,
 };
 use crate::words::{ExprWord, expr_word, scalar_of};
 use model_syntax::{Expr, Scalar};
@@ -76,56 +76,74 @@ fn worded_expr(alloc: Global, word: ExprWord, p: Place, args: &[Sx]) -> Result<E
 fn one_of(alloc: Global, p: Place, args: &[Sx]) -> Result<Box<Expr>, Misread>
     ensures { Yields result (spec.one_of p (map reading args.now)) }
 {
-    let operand = read_expr(alloc, form_at(p, args, 0)?)?;
-    end(args, 1)?;
-    Ok(Box::new(alloc, operand)?)
+    let operand = operand_at(alloc, p, args, 0)?;
+    finished(operand, args, 1)
 }
 
 #[cycle(expr)]
 fn two_of(alloc: Global, p: Place, args: &[Sx]) -> Result<(Box<Expr>, Box<Expr>), Misread>
     ensures { Yields result (spec.two_of p (map reading args.now)) }
 {
-    let left = read_expr(alloc, form_at(p, args, 0)?)?;
-    let right = read_expr(alloc, form_at(p, args, 1)?)?;
-    end(args, 2)?;
-    let left = Box::new(alloc, left)?;
-    let right = Box::new(alloc, right)?;
-    Ok((left, right))
+    let left = operand_at(alloc, p, args, 0)?;
+    let right = operand_at(alloc, p, args, 1)?;
+    finished((left, right), args, 2)
+}
+
+/// The form with a number in the list at a place, as an expression that is part of another.
+#[cycle(expr)]
+fn operand_at(alloc: Global, p: Place, args: &[Sx], i: usize) -> Result<Box<Expr>, Misread>
+    ensures { Yields result (parts.nth i spec.expr p (map reading args.now)) }
+{
+    let operand = read_expr(alloc, form_at(p, args, i)?)?;
+    Ok(Box::new(alloc, operand)?)
+}
+
+/// The form with a number in the list at a place, as an expression.
+pub fn expr_at(alloc: Global, p: Place, args: &[Sx], i: usize) -> Result<Expr, Misread>
+    ensures { Yields result (parts.nth i spec.expr p (map reading args.now)) }
+{
+    read_expr(alloc, form_at(p, args, i)?)
 }
 
 fn length_of(alloc: Global, p: Place, args: &[Sx]) -> Result<Expr, Misread>
     ensures { Yields result (spec.length_of p (map reading args.now)) }
 {
-    let a = read_name(alloc, form_at(p, args, 0)?)?;
-    end(args, 1)?;
-    Ok(Expr::Length(a))
+    let a = name_at(alloc, p, args, 0)?;
+    finished(Expr::Length(a), args, 1)
 }
 
 #[cycle(expr)]
 fn get_of(alloc: Global, p: Place, args: &[Sx]) -> Result<Expr, Misread>
     ensures { Yields result (spec.get_of p (map reading args.now)) }
 {
-    let a = read_name(alloc, form_at(p, args, 0)?)?;
-    let index = read_expr(alloc, form_at(p, args, 1)?)?;
-    end(args, 2)?;
-    Ok(Expr::Get(a, Box::new(alloc, index)?))
+    let a = name_at(alloc, p, args, 0)?;
+    let index = operand_at(alloc, p, args, 1)?;
+    finished(Expr::Get(a, index), args, 2)
 }
 
 #[cycle(expr)]
 fn tab_of(alloc: Global, p: Place, args: &[Sx]) -> Result<Expr, Misread>
     ensures { Yields result (spec.tab_of p (map reading args.now)) }
 {
-    let scalar = read_table_scalar(form_at(p, args, 0)?)?;
-    let entries = read_entries(alloc, scalar, form_at(p, args, 1)?)?;
-    let index = read_expr(alloc, form_at(p, args, 2)?)?;
-    end(args, 3)?;
-    Ok(Expr::Tab(scalar, entries, Box::new(alloc, index)?))
+    let scalar = table_scalar(p, args)?;
+    let entries = table_entries(alloc, scalar, p, args)?;
+    let index = operand_at(alloc, p, args, 2)?;
+    finished(Expr::Tab(scalar, entries, index), args, 3)
 }
 
-fn read_table_scalar(form: &Sx) -> Result<Scalar, Misread>
-    ensures { Yields result (spec.table_scalar (reading form.now)) }
+/// The type that a table names first.
+fn table_scalar(p: Place, args: &[Sx]) -> Result<Scalar, Misread>
+    ensures { Yields result (parts.nth 0 spec.table_scalar p (map reading args.now)) }
 {
+    let form = form_at(p, args, 0)?;
     known(place_of(form), scalar_of(text_of(form)))
+}
+
+/// The entries of a table of this type.
+fn table_entries(alloc: Global, scalar: Scalar, p: Place, args: &[Sx]) -> Result<List<u32>, Misread>
+    ensures { Yields result (parts.nth 1 (spec.entries scalar) p (map reading args.now)) }
+{
+    read_entries(alloc, scalar, form_at(p, args, 1)?)
 }
 
 /// The entry fits the type that the table names.

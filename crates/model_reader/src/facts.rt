@@ -5,8 +5,8 @@ ghost use Rattle.model_reader.specs.Parts as parts;
 ghost use Rattle.model_reader.specs.Facts as spec;
 ghost use Rattle.model_reader.specs.Reading.{reading};
 
-use crate::numbers::read_number;
-use crate::parts::{Misread, behind, end, form_at, headed, kids_of, wrong};
+use crate::numbers::number_at;
+use crate::parts::{Misread, behind, beside, finished, form_at, headed, kids_of, wrong};
 use crate::words::is;
 use model_syntax::{Le, Lin};
 use rup_base::{Box, List, Name, Place, number_of};
@@ -47,20 +47,33 @@ fn atom_side(alloc: Global, p: Place, text: &[u8]) -> Result<Lin, Misread>
 fn sum_of(alloc: Global, p: Place, args: &[Sx]) -> Result<Lin, Misread>
     ensures { Yields result (spec.sum_of p (map reading args.now)) }
 {
-    let left = read_side(alloc, form_at(p, args, 0)?)?;
-    let right = read_side(alloc, form_at(p, args, 1)?)?;
-    end(args, 2)?;
-    Ok(Lin::Sum(Box::new(alloc, left)?, Box::new(alloc, right)?))
+    let left = part_at(alloc, p, args, 0)?;
+    let right = part_at(alloc, p, args, 1)?;
+    finished(Lin::Sum(left, right), args, 2)
 }
 
 #[cycle(side)]
 fn scale_of(alloc: Global, p: Place, args: &[Sx]) -> Result<Lin, Misread>
     ensures { Yields result (spec.scale_of p (map reading args.now)) }
 {
-    let factor = read_number(form_at(p, args, 0)?)?;
-    let part = read_side(alloc, form_at(p, args, 1)?)?;
-    end(args, 2)?;
-    Ok(Lin::Scale(factor, Box::new(alloc, part)?))
+    let factor = number_at(p, args, 0)?;
+    let part = part_at(alloc, p, args, 1)?;
+    finished(Lin::Scale(factor, part), args, 2)
+}
+
+/// The form with a number in the list at a place, as a side that is part of another.
+#[cycle(side)]
+fn part_at(alloc: Global, p: Place, args: &[Sx], i: usize) -> Result<Box<Lin>, Misread>
+    ensures { Yields result (parts.nth i spec.side p (map reading args.now)) }
+{
+    let part = read_side(alloc, form_at(p, args, i)?)?;
+    Ok(Box::new(alloc, part)?)
+}
+
+fn side_at(alloc: Global, p: Place, args: &[Sx], i: usize) -> Result<Lin, Misread>
+    ensures { Yields result (parts.nth i spec.side p (map reading args.now)) }
+{
+    read_side(alloc, form_at(p, args, i)?)
 }
 
 /// `(le L L)`: the requirement that a side is at most another.
@@ -69,10 +82,9 @@ pub fn read_fact(alloc: Global, form: &Sx) -> Result<Le, Misread>
 {
     let (p, kids) = kids_of(form)?;
     let args = behind(b"le", p, kids)?;
-    let low = read_side(alloc, form_at(p, args, 0)?)?;
-    let high = read_side(alloc, form_at(p, args, 1)?)?;
-    end(args, 2)?;
-    Ok(Le { low, high })
+    let low = side_at(alloc, p, args, 0)?;
+    let (low, high) = beside(low, side_at(alloc, p, args, 1))?;
+    finished(Le { low, high }, args, 2)
 }
 
 fn each_fact(alloc: Global, forms: &[Sx]) -> Result<List<Le>, Misread>

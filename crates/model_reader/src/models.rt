@@ -6,11 +6,11 @@ ghost use Rattle.model_reader.specs.Models as spec;
 ghost use Rattle.model_reader.specs.Reading.{reading};
 
 use crate::facts::facts_of;
-use crate::names::read_name;
+use crate::names::name_at;
 use crate::parts::{
-    Misread, behind, end, form_at, headed, kids_of, known, place_of, text_of, wrong,
+    Misread, behind, finished, form_at, headed, kids_of, known, place_of, text_of, wrong,
 };
-use crate::statements::read_block;
+use crate::statements::block_at;
 use crate::words::{array_of, is, scalar_of};
 use model_syntax::{Le, Len, Model, Param, Ret, Scalar};
 use rup_base::{List, Name, Place, number_of};
@@ -57,21 +57,38 @@ fn array_of_length(
     ensures { Yields result (spec.array_of_length x scalar p (map reading args.now)) }
 {
     let length = read_length(alloc, form_at(p, args, 0)?)?;
-    end(args, 1)?;
-    Ok(array_param(x, length, scalar))
+    finished(array_param(x, length, scalar), args, 1)
 }
 
 /// The type of the parameter `x`.
 fn read_sort(alloc: Global, x: Name, form: &Sx) -> Result<Param, Misread>
     ensures { Yields result (spec.sort x (reading form.now)) }
 {
-    if let Sx::Atom(p, text) = form {
-        return Ok(scalar_param(x, known(*p, scalar_of(text.as_slice()))?));
+    match form {
+        Sx::Atom(p, text) => atom_sort(x, *p, text.as_slice()),
+        Sx::Kids(p, kids) => list_sort(alloc, x, *p, kids.as_slice()),
     }
-    let (p, kids) = kids_of(form)?;
+}
+
+fn atom_sort(x: Name, p: Place, text: &[u8]) -> Result<Param, Misread>
+    ensures { Yields result (spec.atom_sort p text.now x) }
+{
+    Ok(scalar_param(x, known(p, scalar_of(text))?))
+}
+
+fn list_sort(alloc: Global, x: Name, p: Place, kids: &[Sx]) -> Result<Param, Misread>
+    ensures { Yields result (spec.list_sort p (map reading kids.now) x) }
+{
     let (head, args) = headed(p, kids)?;
     let scalar = known(p, array_of(head))?;
     array_of_length(alloc, x, scalar, p, args)
+}
+
+/// The first form of a list as the type of the parameter `x`.
+fn sort_at(alloc: Global, x: Name, p: Place, args: &[Sx]) -> Result<Param, Misread>
+    ensures { Yields result (parts.nth 0 (spec.sort x) p (map reading args.now)) }
+{
+    read_sort(alloc, x, form_at(p, args, 0)?)
 }
 
 fn read_param(alloc: Global, form: &Sx) -> Result<Param, Misread>
@@ -80,9 +97,7 @@ fn read_param(alloc: Global, form: &Sx) -> Result<Param, Misread>
     let (p, kids) = kids_of(form)?;
     let (head, args) = headed(p, kids)?;
     let x = known(p, Name::read(alloc, head)?)?;
-    let param = read_sort(alloc, x, form_at(p, args, 0)?)?;
-    end(args, 1)?;
-    Ok(param)
+    finished(sort_at(alloc, x, p, args)?, args, 1)
 }
 
 fn each_param(alloc: Global, forms: &[Sx]) -> Result<List<Param>, Misread>
@@ -102,11 +117,25 @@ fn read_params(alloc: Global, form: &Sx) -> Result<List<Param>, Misread>
     each_param(alloc, behind(b"params", p, kids)?)
 }
 
+/// The parameters of a model.
+fn params_at(alloc: Global, p: Place, args: &[Sx]) -> Result<List<Param>, Misread>
+    ensures { Yields result (parts.nth 1 spec.params p (map reading args.now)) }
+{
+    read_params(alloc, form_at(p, args, 1)?)
+}
+
 fn read_requires(alloc: Global, form: &Sx) -> Result<List<Le>, Misread>
     ensures { Yields result (spec.requires_ (reading form.now)) }
 {
     let (p, kids) = kids_of(form)?;
     facts_of(alloc, b"require", p, kids)
+}
+
+/// The requirements of a model.
+fn requires_at(alloc: Global, p: Place, args: &[Sx]) -> Result<List<Le>, Misread>
+    ensures { Yields result (parts.nth 2 spec.requires_ p (map reading args.now)) }
+{
+    read_requires(alloc, form_at(p, args, 2)?)
 }
 
 /// Refuses another form than the word `in`.
@@ -126,9 +155,8 @@ fn list_ret(alloc: Global, p: Place, kids: &[Sx]) -> Result<Ret, Misread>
     let (head, args) = headed(p, kids)?;
     let a = known(p, Name::read(alloc, head)?)?;
     read_in(form_at(p, args, 0)?)?;
-    let owner = read_name(alloc, form_at(p, args, 1)?)?;
-    end(args, 2)?;
-    Ok(Ret::Array(a, owner))
+    let owner = name_at(alloc, p, args, 1)?;
+    finished(Ret::Array(a, owner), args, 2)
 }
 
 fn read_ret(alloc: Global, form: &Sx) -> Result<Ret, Misread>
@@ -157,22 +185,29 @@ fn read_rets(alloc: Global, form: &Sx) -> Result<List<Ret>, Misread>
     each_ret(alloc, behind(b"ret", p, kids)?)
 }
 
+/// The results of a model.
+fn rets_at(alloc: Global, p: Place, args: &[Sx]) -> Result<List<Ret>, Misread>
+    ensures { Yields result (parts.nth 4 spec.rets p (map reading args.now)) }
+{
+    read_rets(alloc, form_at(p, args, 4)?)
+}
+
 fn model_of(alloc: Global, p: Place, args: &[Sx]) -> Result<Model, Misread>
     ensures { Yields result (spec.model_of p (map reading args.now)) }
 {
-    let name = read_name(alloc, form_at(p, args, 0)?)?;
-    let params = read_params(alloc, form_at(p, args, 1)?)?;
-    let requires_ = read_requires(alloc, form_at(p, args, 2)?)?;
-    let body = read_block(alloc, form_at(p, args, 3)?)?;
-    let rets = read_rets(alloc, form_at(p, args, 4)?)?;
-    end(args, 5)?;
-    Ok(Model {
+    let name = name_at(alloc, p, args, 0)?;
+    let params = params_at(alloc, p, args)?;
+    let requires_ = requires_at(alloc, p, args)?;
+    let body = block_at(alloc, p, args, 3)?;
+    let rets = rets_at(alloc, p, args)?;
+    let model = Model {
         name,
         params,
         requires_,
         body,
         rets,
-    })
+    };
+    finished(model, args, 5)
 }
 
 fn read_model_form(alloc: Global, form: &Sx) -> Result<Model, Misread>
@@ -187,6 +222,5 @@ pub fn whole(alloc: Global, p: Place, forms: &[Sx]) -> Result<Model, Misread>
     ensures { Yields result (spec.whole p (map reading forms.now)) }
 {
     let m = read_model_form(alloc, form_at(p, forms, 0)?)?;
-    end(forms, 1)?;
-    Ok(m)
+    finished(m, forms, 1)
 }

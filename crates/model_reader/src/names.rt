@@ -5,8 +5,8 @@ ghost use Rattle.model_reader.specs.Parts as parts;
 ghost use Rattle.model_reader.specs.Statements as spec;
 ghost use Rattle.model_reader.specs.Reading.{reading};
 
-use crate::parts::{Misread, end, form_at, kids_of, known, place_of, text_of};
-use rup_base::{List, Name};
+use crate::parts::{Misread, finished, form_at, kids_of, known, place_of, text_of};
+use rup_base::{List, Name, Place};
 use std::alloc::Global;
 use sx_text::Sx;
 
@@ -15,6 +15,13 @@ pub fn read_name(alloc: Global, form: &Sx) -> Result<Name, Misread>
     ensures { Yields result (parts.name (reading form.now)) }
 {
     known(place_of(form), Name::read(alloc, text_of(form))?)
+}
+
+/// The form with a number in the list at a place, as a name.
+pub fn name_at(alloc: Global, p: Place, args: &[Sx], i: usize) -> Result<Name, Misread>
+    ensures { Yields result (parts.nth i parts.name p (map reading args.now)) }
+{
+    read_name(alloc, form_at(p, args, i)?)
 }
 
 fn each_name(alloc: Global, forms: &[Sx]) -> Result<List<Name>, Misread>
@@ -40,7 +47,5 @@ pub fn read_element(alloc: Global, form: &Sx) -> Result<Name, Misread>
     ensures { Yields result (spec.element (reading form.now)) }
 {
     let (p, forms) = kids_of(form)?;
-    let name = read_name(alloc, form_at(p, forms, 0)?)?;
-    end(forms, 1)?;
-    Ok(name)
+    finished(name_at(alloc, p, forms, 0)?, forms, 1)
 }

@@ -1,5 +1,5 @@
 //! The parts of a list: its forms by number, and what is refused of them.
-ghost use Rattle.std.specs.Prelude.{◌≡◌, ◌+◌, ◌≤◌, ◌-◌, map, Ok, IfOk, IfErr};
+ghost use Rattle.std.specs.Prelude.{◌≡◌, ◌+◌, ◌≤◌, ◌-◌, map, Ok, Err, IfOk, IfErr};
 ghost use Rattle.model_reader.specs.declared.parts.Misread.TheVariants as misread;
 ghost use Rattle.model_reader.specs.Parts as parts;
 ghost use Rattle.model_reader.specs.Reading.{reading, atom_reading, list_reading};
@@ -135,5 +135,24 @@ pub fn end(kids: &[Sx], i: usize) -> Result<(), Misread>
         Err(wrong(place_of(&kids[i])))
     } else {
         Ok(())
+    }
+}
+
+/// What the forms before number `i` were read as; the first form from there on is refused.
+pub fn finished<T: Drop>(value: T, kids: &[Sx], i: usize) -> Result<T, Misread>
+    ensures { Yields result (parts.finished value i (map reading kids.now)) }
+{
+    end(kids, i)?;
+    Ok(value)
+}
+
+/// What is held and what was read after it; where that was refused, what is held is let go.
+pub fn beside<A: Drop, B>(held: A, read: Result<B, Misread>) -> Result<(A, B), Misread>
+    ensures both { IfOk result (λ r. (r.0 ≡ held) × (read ≡ Ok r.1)) }
+    ensures refused { IfErr result (λ e. read ≡ Err e) }
+{
+    match read {
+        Ok(value) => Ok((held, value)),
+        Err(misread) => Err(misread),
     }
 }

@@ -43,7 +43,8 @@ pub fn text_is_of_formed_model()
 /// A law: an expression and a fact that a form is read as are formed, and the text of models can spell the
 /// expression's tables.
 pub fn form_is_of_formed_term()
-    ensures expression { (form : Sx) (a : Expr) → (reading form).expr ≡ Ok a → (expr_formed a ≡ true) × (expr_spellable a ≡ true) }
+    ensures expression { (form : Sx) (a : Expr) → (reading form).expr ≡ Ok a
+        → (expr_formed a ≡ true) × (expr_spellable a ≡ true) }
     ensures fact { (form : Sx) (r : Le) → (reading form).fact ≡ Ok r → fact_formed r ≡ true }
 {}
 

@@ -5,10 +5,10 @@ ghost use Rattle.model_reader.specs.Parts as parts;
 ghost use Rattle.model_reader.specs.Statements as spec;
 ghost use Rattle.model_reader.specs.Reading.{reading};
 
-use crate::expressions::read_expr;
+use crate::expressions::expr_at;
 use crate::facts::facts_of;
-use crate::names::{read_element, read_name, read_names};
-use crate::parts::{Misread, behind, end, form_at, headed, kids_of, known};
+use crate::names::{name_at, read_element, read_names};
+use crate::parts::{Misread, behind, beside, finished, form_at, headed, kids_of, known};
 use crate::words::{StmtWord, stmt_word};
 use model_syntax::{Expr, Le, Stmt};
 use rup_base::{List, Name, Place};
@@ -42,31 +42,28 @@ fn read_stmt(alloc: Global, form: &Sx) -> Result<Stmt, Misread>
 fn let_of(alloc: Global, p: Place, args: &[Sx]) -> Result<Stmt, Misread>
     ensures { Yields result (spec.let_of p (map reading args.now)) }
 {
-    let x = read_name(alloc, form_at(p, args, 0)?)?;
-    let value = read_expr(alloc, form_at(p, args, 1)?)?;
-    end(args, 2)?;
-    Ok(Stmt::Let(x, value))
+    let x = name_at(alloc, p, args, 0)?;
+    let value = expr_at(alloc, p, args, 1)?;
+    finished(Stmt::Let(x, value), args, 2)
 }
 
 fn put_of(alloc: Global, p: Place, args: &[Sx]) -> Result<Stmt, Misread>
     ensures { Yields result (spec.put_of p (map reading args.now)) }
 {
-    let a = read_name(alloc, form_at(p, args, 0)?)?;
-    let index = read_expr(alloc, form_at(p, args, 1)?)?;
-    let value = read_expr(alloc, form_at(p, args, 2)?)?;
-    end(args, 3)?;
-    Ok(Stmt::Put(a, index, value))
+    let a = name_at(alloc, p, args, 0)?;
+    let index = expr_at(alloc, p, args, 1)?;
+    let (index, value) = beside(index, expr_at(alloc, p, args, 2))?;
+    finished(Stmt::Put(a, index, value), args, 3)
 }
 
 fn move_of(alloc: Global, p: Place, args: &[Sx]) -> Result<Stmt, Misread>
     ensures { Yields result (spec.move_of p (map reading args.now)) }
 {
-    let b = read_name(alloc, form_at(p, args, 0)?)?;
-    let a = read_name(alloc, form_at(p, args, 1)?)?;
-    let index = read_expr(alloc, form_at(p, args, 2)?)?;
-    let value = read_expr(alloc, form_at(p, args, 3)?)?;
-    end(args, 4)?;
-    Ok(Stmt::Move(b, a, index, value))
+    let b = name_at(alloc, p, args, 0)?;
+    let a = name_at(alloc, p, args, 1)?;
+    let index = expr_at(alloc, p, args, 2)?;
+    let (index, value) = beside(index, expr_at(alloc, p, args, 3))?;
+    finished(Stmt::Move(b, a, index, value), args, 4)
 }
 
 /// The names that a block hands on, from number `i` on, and the facts that are kept.
@@ -88,8 +85,8 @@ fn carried(
 fn choice_of(alloc: Global, p: Place, args: &[Sx]) -> Result<(Expr, List<Name>, List<Le>), Misread>
     ensures { Yields result (spec.choice_of p (map reading args.now)) }
 {
-    let test = read_expr(alloc, form_at(p, args, 0)?)?;
-    let (names, keep) = carried(alloc, p, args, 1)?;
+    let test = expr_at(alloc, p, args, 0)?;
+    let (test, (names, keep)) = beside(test, carried(alloc, p, args, 1))?;
     Ok((test, names, keep))
 }
 
@@ -97,20 +94,19 @@ fn choice_of(alloc: Global, p: Place, args: &[Sx]) -> Result<(Expr, List<Name>, 
 fn if_of(alloc: Global, p: Place, args: &[Sx]) -> Result<Stmt, Misread>
     ensures { Yields result (spec.if_of p (map reading args.now)) }
 {
-    let (test, names, keep) = choice_of(alloc, p, args)?;
-    let first = block_at(alloc, p, args, 3)?;
-    let second = block_at(alloc, p, args, 4)?;
-    end(args, 5)?;
-    Ok(Stmt::If(test, names, keep, first, second))
+    let choice = choice_of(alloc, p, args)?;
+    let (choice, first) = beside(choice, block_at(alloc, p, args, 3))?;
+    let ((test, names, keep), second) = beside(choice, block_at(alloc, p, args, 4))?;
+    finished(Stmt::If(test, names, keep, first, second), args, 5)
 }
 
 /// The name of a loop and its ends.
 fn range_of(alloc: Global, p: Place, args: &[Sx]) -> Result<(Name, Expr, Expr), Misread>
     ensures { Yields result (spec.range_of p (map reading args.now)) }
 {
-    let x = read_name(alloc, form_at(p, args, 0)?)?;
-    let low = read_expr(alloc, form_at(p, args, 1)?)?;
-    let high = read_expr(alloc, form_at(p, args, 2)?)?;
+    let x = name_at(alloc, p, args, 0)?;
+    let low = expr_at(alloc, p, args, 1)?;
+    let (low, high) = beside(low, expr_at(alloc, p, args, 2))?;
     Ok((x, low, high))
 }
 
@@ -118,32 +114,36 @@ fn range_of(alloc: Global, p: Place, args: &[Sx]) -> Result<(Name, Expr, Expr), 
 fn for_of(alloc: Global, p: Place, args: &[Sx]) -> Result<Stmt, Misread>
     ensures { Yields result (spec.for_of p (map reading args.now)) }
 {
-    let (x, low, high) = range_of(alloc, p, args)?;
-    let (names, keep) = carried(alloc, p, args, 3)?;
-    let body = block_at(alloc, p, args, 5)?;
-    end(args, 6)?;
-    Ok(Stmt::For(x, low, high, names, keep, body))
+    let range = range_of(alloc, p, args)?;
+    let (range, (names, keep)) = beside(range, carried(alloc, p, args, 3))?;
+    let ((x, low, high), body) = beside(range, block_at(alloc, p, args, 5))?;
+    finished(Stmt::For(x, low, high, names, keep, body), args, 6)
+}
+
+/// The form with a number in the list at a place, as the name of an element.
+fn element_at(alloc: Global, p: Place, args: &[Sx], i: usize) -> Result<Name, Misread>
+    ensures { Yields result (parts.nth i spec.element p (map reading args.now)) }
+{
+    read_element(alloc, form_at(p, args, i)?)
 }
 
 fn map_of(alloc: Global, p: Place, args: &[Sx]) -> Result<Stmt, Misread>
     ensures { Yields result (spec.map_of p (map reading args.now)) }
 {
-    let a = read_name(alloc, form_at(p, args, 0)?)?;
-    let x = read_element(alloc, form_at(p, args, 1)?)?;
-    let value = read_expr(alloc, form_at(p, args, 2)?)?;
-    end(args, 3)?;
-    Ok(Stmt::Map(a, x, value))
+    let a = name_at(alloc, p, args, 0)?;
+    let x = element_at(alloc, p, args, 1)?;
+    let value = expr_at(alloc, p, args, 2)?;
+    finished(Stmt::Map(a, x, value), args, 3)
 }
 
 fn fold_of(alloc: Global, p: Place, args: &[Sx]) -> Result<Stmt, Misread>
     ensures { Yields result (spec.fold_of p (map reading args.now)) }
 {
-    let scalar = read_name(alloc, form_at(p, args, 0)?)?;
-    let a = read_name(alloc, form_at(p, args, 1)?)?;
-    let x = read_element(alloc, form_at(p, args, 2)?)?;
-    let value = read_expr(alloc, form_at(p, args, 3)?)?;
-    end(args, 4)?;
-    Ok(Stmt::Fold(scalar, a, x, value))
+    let scalar = name_at(alloc, p, args, 0)?;
+    let a = name_at(alloc, p, args, 1)?;
+    let x = element_at(alloc, p, args, 2)?;
+    let value = expr_at(alloc, p, args, 3)?;
+    finished(Stmt::Fold(scalar, a, x, value), args, 4)
 }
 
 #[cycle(stmt)]
@@ -158,8 +158,9 @@ fn each_stmt(alloc: Global, forms: &[Sx]) -> Result<List<Stmt>, Misread>
     Ok(stmts)
 }
 
+/// The form with a number in the list at a place, as a block.
 #[cycle(stmt)]
-fn block_at(alloc: Global, p: Place, args: &[Sx], i: usize) -> Result<List<Stmt>, Misread>
+pub fn block_at(alloc: Global, p: Place, args: &[Sx], i: usize) -> Result<List<Stmt>, Misread>
     ensures { Yields result (parts.nth i spec.block p (map reading args.now)) }
 {
     read_block(alloc, form_at(p, args, i)?)
@@ -167,7 +168,7 @@ fn block_at(alloc: Global, p: Place, args: &[Sx], i: usize) -> Result<List<Stmt>
 
 /// `(do S*)`
 #[cycle(stmt)]
-pub fn read_block(alloc: Global, form: &Sx) -> Result<List<Stmt>, Misread>
+fn read_block(alloc: Global, form: &Sx) -> Result<List<Stmt>, Misread>
     ensures { Yields result (spec.block (reading form.now)) }
 {
     let (p, kids) = kids_of(form)?;

@@ -1,5 +1,6 @@
 -- How long an image within the limits is, and its lists.
-use Rattle.std.proofs.Common.{◌≡◌, ℕ, ◌+◌, ◌-◌, ◌*◌, ◌≤◌, List, [], ◌∷◌, ◌++◌, length, replicate, Option, Some, None, ℤ, refl, length-append, arith}
+use Rattle.std.proofs.Common.{◌≡◌, ℕ, ◌+◌, ◌-◌, ◌*◌, ◌≤◌, List, [], ◌∷◌, ◌++◌, length, replicate, Option, Some, None, ℤ, refl}
+use Rattle.std.proofs.Common.{length-append, arith}
 use Rattle.std.specs.Prelude.{sum_by}
 use Rattle.std.specs.List.{flat_map, AllByRecursion}
 use Rattle.std.proofs.lemmas.List.{length-replicate}
@@ -9,7 +10,9 @@ use Rattle.rup_base.specs.declared.arg.Kind.TheVariants.{Word, Byte, Bytes, Word
 use Rattle.side_certs.specs.LinearForm.{LinearForm}
 use Rattle.cost_poly.specs.declared.term.Term.{Term}
 use Rattle.image_layout.specs.declared.image.Image.{Image}
-use Rattle.image_layout.specs.Spelling.{registers_of, symbols_of, wide, parameter, form_term, requirement, symbol, bound_term, lists, header_length, code_offset, image_length, fixed_fields, spelling, symbol_count, IsRequirement, IsWithinLimits}
+use Rattle.image_layout.specs.Spelling.{registers_of, symbols_of, wide, parameter, form_term, requirement, symbol, bound_term}
+use Rattle.image_layout.specs.Spelling.{lists, header_length, code_offset, image_length, fixed_fields, spelling, symbol_count}
+use Rattle.image_layout.specs.Spelling.{IsRequirement, IsWithinLimits}
 use Rattle.image_layout.proofs.Limits.{params_few, terms_few, rets_few, bound_few}
 
 parameter_size : (k : Kind) → length (parameter k) ≡ 8
@@ -31,11 +34,20 @@ terms_size (t ∷ ts) = let rest : length (flat_map form_term ts) ≡ 12 * lengt
 pub requirement_size : (f : LinearForm) → length (requirement f) ≡ 12 + 12 * length f.terms
 requirement_size f = omega (arith, terms_size f.terms)
 
-requirements_size : (count : ℕ) (fs : List LinearForm) → count ≤ 8 → AllByRecursion (IsRequirement count) fs → length (flat_map requirement fs) ≤ 108 * length fs
+requirements_size : (count : ℕ) (fs : List LinearForm) → count ≤ 8 → AllByRecursion (IsRequirement count) fs
+    → length (flat_map requirement fs) ≤ 108 * length fs
 requirements_size count [] few all = omega arith
 requirements_size count (f ∷ fs) few all =
     let terms : 0 + length f.terms ≤ count = terms_few 0 count f.terms (omega arith) all.0.terms_fit in
-    omega (arith, length-append (requirement f) (flat_map requirement fs), requirements_size count fs few all.1, requirement_size f, terms, few)
+    omega (
+      arith,
+      length-append (requirement f) (flat_map requirement fs),
+      requirements_size count fs few all.1,
+      requirement_size
+          f,
+      terms,
+      few,
+    )
 
 symbol_size : (s : Option ℕ) → length (symbol s) ≡ 4
 symbol_size None = refl
@@ -48,7 +60,15 @@ rets_size (r ∷ rs) = omega (arith, length-append (symbol r) (flat_map symbol r
 bound_size : (ts : List Term) → length (flat_map bound_term ts) ≡ 16 * length ts
 bound_size [] = refl
 bound_size (t ∷ ts) =
-    let size : length (bound_term t) ≡ 16 = omega (arith, length-append (symbol t.first) (symbol t.second ++ wide t.coefficient), length-append (symbol t.second) (wide t.coefficient), symbol_size t.first, symbol_size t.second) in
+    let size : length (bound_term t)
+    ≡ 16 = omega (
+      arith,
+      length-append (symbol t.first) (symbol t.second ++ wide t.coefficient),
+      length-append
+          (symbol t.second) (wide t.coefficient),
+      symbol_size t.first,
+      symbol_size t.second,
+    ) in
     omega (arith, length-append (bound_term t) (flat_map bound_term ts), size, bound_size ts)
 
 symbols_near : (k : Kind) → symbols_of k ≤ registers_of k
@@ -81,11 +101,13 @@ lists_few i w =
       bound = bound_few (symbol_count i.params) i.bound count w.bound_fits;
     }
 
-pub lists_size : (i : Image) → length (lists i) ≡ 8 * length i.params + length (flat_map requirement i.requires_) + 4 * length i.rets + 16 * length i.bound
+pub lists_size : (i : Image) → length (lists i) ≡ 8 * length i.params + length (flat_map requirement i.requires_)
+    + 4 * length i.rets + 16 * length i.bound
 lists_size i =
     omega (
       arith,
-      length-append (flat_map parameter i.params) (flat_map requirement i.requires_ ++ (flat_map symbol i.rets ++ flat_map bound_term i.bound)),
+      length-append (flat_map parameter i.params)
+          (flat_map requirement i.requires_ ++ (flat_map symbol i.rets ++ flat_map bound_term i.bound)),
       length-append (flat_map requirement i.requires_) (flat_map symbol i.rets ++ flat_map bound_term i.bound),
       length-append (flat_map symbol i.rets) (flat_map bound_term i.bound),
       params_size i.params,

@@ -1,5 +1,6 @@
 -- The reader's definition and the relation between texts and models.
-use Rattle.std.proofs.Common.{◌≡◌, subst, refl, sym, ◌∙◌, ap, ℕ, ◌+◌, ◌≤◌, nat_le, Bool, true, false, List, length, arith, Option, Some, None, Ok, IfOk, Result, Err, if◌then◌else◌}
+use Rattle.std.proofs.Common.{◌≡◌, subst, refl, sym, ◌∙◌, ap, ℕ, ◌+◌, ◌≤◌, nat_le, Bool, true, false, List, length, arith, Option}
+use Rattle.std.proofs.Common.{Some, None, Ok, IfOk, Result, Err, if◌then◌else◌}
 use Rattle.std.proofs.lemmas.Bool.Decides.{nat_tests}
 use Rattle.rup_base.specs.Answers.{Answers, and_then}
 use Rattle.rup_base.specs.declared.fail.Fail.{Fail}

@@ -33,7 +33,8 @@ SoundNodes [] = Unit {0}
 SoundNodes (n ∷ ns) = IsSoundNode n × SoundNodes ns
 
 -- nothing was done yet
-nothing_done : (ps : List Param) (scope : Scope) (c : Context) → IsConsistent c → IsScoped ps scope c → StmtDone ps scope scope (λ env. env) c nothing c
+nothing_done : (ps : List Param) (scope : Scope) (c : Context) → IsConsistent c → IsScoped ps scope c
+    → StmtDone ps scope scope (λ env. env) c nothing c
 nothing_done ps scope c s scoped = record {
   moves = moves_nothing c;
   consistent = s;
@@ -49,7 +50,8 @@ nothing_done ps scope c s scoped = record {
     runs = done mem vars;
     fits = fits;
     kept = λ l in_list. refl;
-    unwritten = λ i x y at_x at_y writes. (let both : Some y ≡ Some x = sym at_y ∙ at_x in let one : y ≡ x = cc in ap (λ (z : Clause). value_of env z.name) one);
+    unwritten = λ i x y at_x at_y writes.
+        (let both : Some y ≡ Some x = sym at_y ∙ at_x in let one : y ≡ x = cc in ap (λ (z : Clause). value_of env z.name) one);
     outside = λ address out. refl;
     time = omega arith;
   };
@@ -60,8 +62,10 @@ module _ (ps : List Param) (owner cond : ℕ) (start : Context) (first : Scope) 
   abbrev pub IsWalked : List StmtJudged → Type 0
   IsWalked ns =
       (at : ℕ) (ts : List Stmt) (scope : Scope) (k : ℕ) (end_ : types.State) (f : Env → Env) (out : StmtOut) (c : Context)
-      → all_true (map stmt_formed ts) ≡ true → all_true (map stmt_spellable ts) ≡ true → types.in_turn (map types.stmt ts) (k, scope) ≡ Ok end_
-      → StmtDone ps first scope f start out c → Yields (StmtDone ps first end_.1 (λ env. in_turn (map run ts) (f env)) start) (walk owner cond ns at ts out c)
+      → all_true (map stmt_formed ts) ≡ true → all_true (map stmt_spellable ts) ≡ true
+      → types.in_turn (map types.stmt ts) (k, scope) ≡ Ok end_
+      → StmtDone ps first scope f start out c
+      → Yields (StmtDone ps first end_.1 (λ env. in_turn (map run ts) (f env)) start) (walk owner cond ns at ts out c)
 
   none_walked : IsWalked []
   none_walked at [] scope k end_ f out c formed spelled typed so_far =
@@ -71,9 +75,11 @@ module _ (ps : List Param) (owner cond : ℕ) (start : Context) (first : Scope) 
 
   note_walked : (n : StmtJudged) (ns : List StmtJudged) → IsSoundNode n → IsWalked ns → n.is_note ≡ true → IsWalked (n ∷ ns)
   note_walked n ns sound more e at ts scope k end_ f out c formed spelled typed so_far = rw e
-      (yields_then (StmtDone ps first end_.1 (λ env. in_turn (map run ts) (f env)) start) c (StmtDone ps scope scope (λ env. env) c) (n.as_note at)
+      (yields_then (StmtDone ps first end_.1 (λ env. in_turn (map run ts) (f env)) start) c
+      (StmtDone ps scope scope (λ env. env) c) (n.as_note at)
       (λ o. walk owner cond ns (at + n.size) ts (joined out o)) (sound.note at ps scope c so_far.consistent so_far.scoped)
-      (λ o d one. more (at + n.size) ts scope k end_ f (joined out o) d formed spelled typed (seq_done ps first scope scope f (λ env. env) start c d out o so_far one)))
+      (λ o d one. more (at + n.size) ts scope k end_ f (joined out o) d formed spelled typed
+      (seq_done ps first scope scope f (λ env. env) start c d out o so_far one)))
 
   statement_walked : (n : StmtJudged) (ns : List StmtJudged) → IsSoundNode n → IsWalked ns → n.is_note ≡ false → IsWalked (n ∷ ns)
   statement_walked n ns sound more e at [] scope k end_ f out c formed spelled typed so_far = rw e tt
@@ -83,10 +89,12 @@ module _ (ps : List Param) (owner cond : ℕ) (start : Context) (first : Scope) 
       let typed_parts = first_answered (types.stmt t (k, scope)) (types.in_turn (map types.stmt rest)) end_ typed in
       let mid = typed_parts.0 in
       rw e
-      (yields_then (StmtDone ps first end_.1 (λ env. in_turn (map run rest) (run t (f env))) start) c (StmtDone ps scope mid.1 (run t) c) (n.row at t)
+      (yields_then (StmtDone ps first end_.1 (λ env. in_turn (map run rest) (run t (f env))) start) c
+      (StmtDone ps scope mid.1 (run t) c) (n.row at t)
       (λ o. walk owner cond ns (at + n.size) rest (joined out o))
       (sound.statement at t ps scope k mid c so_far.consistent so_far.scoped formed_parts.0 spelled_parts.0 typed_parts.1.0)
-      (λ o d one. more (at + n.size) rest mid.1 mid.0 end_ (λ env. run t (f env)) (joined out o) d formed_parts.1 spelled_parts.1 typed_parts.1.1
+      (λ o d one. more (at + n.size) rest mid.1 mid.0 end_ (λ env. run t (f env)) (joined out o) d formed_parts.1 spelled_parts.1
+      typed_parts.1.1
       (seq_done ps first scope mid.1 f (run t) start c d out o so_far one)))
 
   walked : (ns : List StmtJudged) → SoundNodes ns → IsWalked ns
@@ -97,6 +105,8 @@ module _ (ps : List Param) (owner cond : ℕ) (start : Context) (first : Scope) 
     by more false e = statement_walked n ns sound.0 more e
 
 -- a block is sound where its nodes are
-pub block_sound : (owner cond : ℕ) (ns : List StmtJudged) → SoundNodes ns → (at : ℕ) (ts : List Stmt) → AreSound ts (walk owner cond ns at ts nothing)
+pub block_sound : (owner cond : ℕ) (ns : List StmtJudged) → SoundNodes ns → (at : ℕ) (ts : List Stmt)
+    → AreSound ts (walk owner cond ns at ts nothing)
 block_sound owner cond ns sound at ts ps scope k after before s scoped formed spelled typed =
-    walked ps owner cond before scope ns sound at ts scope k after (λ env. env) nothing before formed spelled typed (nothing_done ps scope before s scoped)
+    walked ps owner cond before scope ns sound at ts scope k after (λ env. env) nothing before formed spelled typed
+    (nothing_done ps scope before s scoped)

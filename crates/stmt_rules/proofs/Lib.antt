@@ -8,6 +8,7 @@ pub mod Nested
 pub mod Reserving
 pub mod Scopes
 pub mod Sequence
+pub mod WithoutBlocks
 pub mod Sizes
 pub mod Small
 pub mod Terms

@@ -1,12 +1,12 @@
 -- Reserved locals, one by one and together; and facts that keep the limits of linear forms.
 use Rattle.std.proofs.Common.{◌≡◌, ap, ℕ, true, List, [], ◌∷◌, append_assoc, is_ok}
 use Rattle.std.proofs.lemmas.List.{append-nil}
-use Rattle.model_syntax.specs.Linear.{linear}
+use Rattle.model_syntax.specs.Linear.{linear, is_narrow}
 use Rattle.model_syntax.specs.declared.stmt.Le.{Le}
 use Rattle.sym_heap.specs.Context.{Context, with_reserved}
 use Rattle.sym_heap.specs.Sides.{IsNarrow}
 use Rattle.sym_heap.specs.Turns.{reserving}
-use Rattle.stmt_rules.specs.Narrow.{is_narrow, all_narrow}
+use Rattle.stmt_rules.specs.Narrow.{all_narrow}
 use Rattle.stmt_rules.proofs.Sequence.{and_parts}
 
 pub reserving_none : (c : Context) → reserving [] c ≡ c

@@ -1,11 +1,13 @@
 -- What typing says of names at the ends of blocks: carried names have the types of both ends, and a scalar stays a scalar.
-use Rattle.std.proofs.Common.{◌≡◌, refl, sym, ◌∙◌, ap, subst, ℕ, Bool, true, false, List, [], ◌∷◌, map, Option, Some, None, Ok, Err, if◌then◌else◌}
+use Rattle.std.proofs.Common.{◌≡◌, refl, sym, ◌∙◌, ap, subst, ℕ, Bool, true, false, List, [], ◌∷◌, map, Option, Some, None, Ok}
+use Rattle.std.proofs.Common.{Err, if◌then◌else◌}
 use Rattle.rup_base.specs.declared.refusal.TypePlace.TheVariants.{Statement}
 use Rattle.rup_base.specs.declared.refusal.TypeWhy.TheVariants as why
 use Rattle.model_syntax.specs.ExprType.{type_of, wanted}
 use Rattle.model_syntax.specs.Limits.{next}
 use Rattle.model_syntax.specs.Names.{Name, same, listed}
-use Rattle.model_syntax.specs.Scope.{Scope, look_up, bind, same_type, scalar_in, array_in, element_in, scalar_may_take, array_may_take, agreed}
+use Rattle.model_syntax.specs.Scope.{Scope, look_up, bind, same_type, scalar_in, array_in, element_in, scalar_may_take}
+use Rattle.model_syntax.specs.Scope.{array_may_take, agreed}
 use Rattle.model_syntax.specs.Types as types
 use Rattle.model_syntax.specs.declared.expr.Expr.{Expr}
 use Rattle.model_syntax.specs.declared.expr.Scalar.{Scalar}
@@ -28,7 +30,8 @@ agreed_types (Some t) (Some u) v is = by (same_type t u) refl is where
   by true e h =
       let here : t ≡ v = answer_is t v (let kept : (if true then Ok t else Err why.Uncarried) ≡ Ok v = rw e at h in kept) in
       (ap Some here, ap Some (sym (type_same t u e) ∙ here))
-  by false e h = absurd (let bad : (if false then Ok t else Err why.Uncarried) ≡ Ok v = rw e at h in let worse : Err why.Uncarried ≡ Ok v = bad in cc)
+  by false e h = absurd (let bad : (if false then Ok t else Err why.Uncarried) ≡ Ok v = rw e at h in let worse : Err why.Uncarried
+      ≡ Ok v = bad in cc)
 agreed_types None None v is = absurd (cc)
 agreed_types None (Some u) v is = absurd (cc)
 agreed_types (Some t) None v is = absurd (cc)
@@ -45,12 +48,19 @@ pub record IsJoined (names : List Name) (one two scope after : Scope) (x : Name)
   pub carried : listed x names ≡ true → IsCarried one two after x
   pub as_before : listed x names ≡ false → look_up after x ≡ look_up scope x
 
-one_joined : (y : Name) (ys : List Name) (one two scope after : Scope) (x : Name) (t : NameType) → look_up one y ≡ Some t → look_up two y ≡ Some t
+one_joined : (y : Name) (ys : List Name) (one two scope after : Scope) (x : Name) (t : NameType) → look_up one y ≡ Some t
+    → look_up two y ≡ Some t
     → IsJoined ys one two (bind y t scope) after x → IsJoined (y ∷ ys) one two scope after x
 one_joined y ys one two scope after x t at_one at_two more = by (listed x ys) refl (same x y) refl where
   by : (p : Bool) → listed x ys ≡ p → (q : Bool) → same x y ≡ q → IsJoined (y ∷ ys) one two scope after x
-  by true e true f = record { carried = λ in_list. more.carried e; as_before = λ out. absurd (let bad : true ≡ false = rw f at out in cc) }
-  by true e false f = record { carried = λ in_list. more.carried e; as_before = λ out. absurd (let bad : true ≡ false = rw (f, e) at out in cc) }
+  by true e true f = record {
+    carried = λ in_list. more.carried e;
+    as_before = λ out. absurd (let bad : true ≡ false = rw f at out in cc);
+  }
+  by true e false f = record {
+    carried = λ in_list. more.carried e;
+    as_before = λ out. absurd (let bad : true ≡ false = rw (f, e) at out in cc);
+  }
   by false e true f =
       let is : y ≡ x = sym (same_is x y f) in
       record {
@@ -67,7 +77,8 @@ one_joined y ys one two scope after x t at_one at_two more = by (listed x ys) re
     as_before = λ out. more.as_before e ∙ up_else scope y x t (differ_back x y f);
   }
 
-pub names_joined : (names : List Name) (one two scope after : Scope) → types.joined names one two scope ≡ Ok after → (x : Name) → IsJoined names one two scope after x
+pub names_joined : (names : List Name) (one two scope after : Scope) → types.joined names one two scope ≡ Ok after → (x : Name)
+    → IsJoined names one two scope after x
 names_joined [] one two scope after is x = record {
   carried = λ in_list. absurd (let bad : false ≡ true = in_list in cc);
   as_before = λ out. ap (λ (z : Scope). look_up z x) (sym (answer_is scope after is));
@@ -116,7 +127,8 @@ let_stays y a k c end_ is x scalar =
     let one = at_answered (Statement k) _ end_ is in
     let may = first_answered (scalar_may_take (look_up c y)) _ end_ one in
     let type = first_answered (type_of a c) _ end_ may.1.1 in
-    same_scope (next k) (bind y (One type.0) c) end_ x (answer_is (next k, bind y (One type.0) c) end_ type.1.1) (bound_stays c y x type.0 scalar)
+    same_scope (next k) (bind y (One type.0) c) end_ x (answer_is (next k, bind y (One type.0) c) end_ type.1.1)
+    (bound_stays c y x type.0 scalar)
 
 put_stays : (a : Name) (i v : Expr) → Stays (types.stmt_step (s.Put a i v))
 put_stays a i v k c end_ is x scalar =
@@ -134,9 +146,11 @@ move_stays b a i v k c end_ is x scalar =
     let index = first_answered (wanted Word (type_of i c)) _ end_ array.1.1 in
     let value = first_answered (wanted array.0 (type_of v c)) _ end_ index.1.1 in
     let shape = first_answered (array_in (look_up c a)) _ end_ value.1.1 in
-    same_scope (next k) (bind b shape.0 c) end_ x (answer_is (next k, bind b shape.0 c) end_ shape.1.1) (moved_stays c b x shape.0 (free_is (look_up c b) free.1.0) scalar)
+    same_scope (next k) (bind b shape.0 c) end_ x (answer_is (next k, bind b shape.0 c) end_ shape.1.1)
+    (moved_stays c b x shape.0 (free_is (look_up c b) free.1.0) scalar)
 
-joined_stays : (names : List Name) (one two c after : Scope) (x : Name) → IsJoined names one two c after x → IsScalar one x → IsScalar c x → IsScalar after x
+joined_stays : (names : List Name) (one two c after : Scope) (x : Name) → IsJoined names one two c after x → IsScalar one x
+    → IsScalar c x → IsScalar after x
 joined_stays names one two c after x joined at_end scalar = by (listed x names) refl where
   by : (b : Bool) → listed x names ≡ b → IsScalar after x
   by true e =
@@ -145,7 +159,8 @@ joined_stays names one two c after x joined at_end scalar = by (listed x names) 
       (type.0, here.at_after ∙ ap Some type.1)
   by false e = (scalar.0, joined.as_before e ∙ scalar.1)
 
-if_stays : (test : Expr) (names : List Name) (keep : List Le) (first second : List Stmt) → Stays (types.in_turn (map types.stmt first))
+if_stays : (test : Expr) (names : List Name) (keep : List Le) (first second : List Stmt)
+    → Stays (types.in_turn (map types.stmt first))
     → Stays (types.stmt_step (s.If test names keep (map types.stmt first) (map types.stmt second)))
 if_stays test names keep first second first_stays k c end_ is x scalar =
     let found = first_answered (types.at (Statement k) (wanted Flag (type_of test c))) _ end_ is in
@@ -156,9 +171,11 @@ if_stays test names keep first second first_stays k c end_ is x scalar =
     let facts = first_answered (types.at (Statement k) (types.facts keep joined.0)) _ end_ joined.1.1 in
     let join = at_answered (Statement k) (types.joined names one.0.1 two.0.1 c) joined.0 joined.1.0 in
     same_scope two.0.0 joined.0 end_ x (answer_is (two.0.0, joined.0) end_ facts.1.1)
-    (joined_stays names one.0.1 two.0.1 c joined.0 x (names_joined names one.0.1 two.0.1 c joined.0 join x) (first_stays (next k) c one.0 one.1.0 x scalar) scalar)
+    (joined_stays names one.0.1 two.0.1 c joined.0 x (names_joined names one.0.1 two.0.1 c joined.0 join x)
+    (first_stays (next k) c one.0 one.1.0 x scalar) scalar)
 
-for_stays : (y : Name) (low high : Expr) (names : List Name) (keep : List Le) (body : List Stmt) → Stays (types.stmt_step (s.For y low high names keep (map types.stmt body)))
+for_stays : (y : Name) (low high : Expr) (names : List Name) (keep : List Le) (body : List Stmt)
+    → Stays (types.stmt_step (s.For y low high names keep (map types.stmt body)))
 for_stays y low high names keep body k c end_ is x scalar =
     let count = first_answered (types.at (Statement k) (types.counter y names c)) _ end_ is in
     let from = first_answered (types.at (Statement k) (wanted Word (type_of low c))) _ end_ count.1.1 in
@@ -202,14 +219,18 @@ turns_stay (t ∷ ts) k c end_ is x scalar =
     turns_stay ts first.0.0 first.0.1 end_ first.1.1 x (t.1 k c first.0 first.1.0 x scalar)
 
 at_layer : (y : Stmt-F Stmt) → Stays (types.stmt_step (map-Stmt Stmt types.Block types.stmt y)) → StmtStays (roll-Stmt y)
-at_layer y stays k c end_ is = stays k c end_ (sym (ap (λ (b : types.Block). b (k, c)) (fold-roll-Stmt types.Block types.stmt_step y)) ∙ is)
+at_layer y stays k c end_ is =
+    stays k c end_ (sym (ap (λ (b : types.Block). b (k, c)) (fold-roll-Stmt types.Block types.stmt_step y)) ∙ is)
 
 node_stays : (y : Stmt-F Proved) → StmtStays (roll-Stmt (map-Stmt Proved Stmt (λ p. p.0) y))
 node_stays (s.Let x a) = at_layer (s.Let x a) (let_stays x a)
 node_stays (s.Put a i v) = at_layer (s.Put a i v) (put_stays a i v)
 node_stays (s.Move b a i v) = at_layer (s.Move b a i v) (move_stays b a i v)
-node_stays (s.If test names keep first second) = at_layer (s.If test names keep (stmts first) (stmts second)) (if_stays test names keep (stmts first) (stmts second) (turns_stay first))
-node_stays (s.For x low high names keep body) = at_layer (s.For x low high names keep (stmts body)) (for_stays x low high names keep (stmts body))
+node_stays (s.If test names keep first second) =
+    at_layer (s.If test names keep (stmts first) (stmts second))
+    (if_stays test names keep (stmts first) (stmts second) (turns_stay first))
+node_stays (s.For x low high names keep body) =
+    at_layer (s.For x low high names keep (stmts body)) (for_stays x low high names keep (stmts body))
 node_stays (s.Map a x v) = at_layer (s.Map a x v) (map_stays a x v)
 node_stays (s.Fold t a x v) = at_layer (s.Fold t a x v) (fold_stays t a x v)
 

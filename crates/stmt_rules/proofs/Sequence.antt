@@ -1,5 +1,6 @@
 -- Statements one after another.
-use Rattle.std.proofs.Common.{◌≡◌, refl, sym, ◌∙◌, ap, subst, arith, ℕ, ◌+◌, Bool, true, false, ◌&&◌, List, [], ◌∷◌, ◌++◌, length, Some, append_assoc}
+use Rattle.std.proofs.Common.{◌≡◌, refl, sym, ◌∙◌, ap, subst, arith, ℕ, ◌+◌, Bool, true, false, ◌&&◌, List, [], ◌∷◌, ◌++◌, length}
+use Rattle.std.proofs.Common.{Some, append_assoc}
 use Rattle.std.proofs.lemmas.List.{append-nil}
 use Rattle.rv_memory.specs.Ranges.{Bytes, Within}
 use Rattle.side_certs.specs.LinearForm.{LinearForm}
@@ -26,14 +27,19 @@ use Rattle.stmt_rules.specs.Words.{joined}
 
 -- what a list costs before another
 pub costs_append : (w : Weights) (call : Call) (cs ds : List Cmd) (ts : List LinearForm)
-    → cost_all w call (cs ++ ds) ts ≡ ((cost_all w call cs ts).0 + (cost_all w call ds (cost_all w call cs ts).1).0, (cost_all w call ds (cost_all w call cs ts).1).1)
+    → cost_all w call (cs ++ ds) ts
+    ≡ (
+      (cost_all w call cs ts).0 + (cost_all w call ds (cost_all w call cs ts).1).0,
+      (cost_all w call ds (cost_all w call cs ts).1).1,
+    )
 costs_append w call [] ds ts =
     let none : 0 + (cost_all w call ds ts).0 ≡ (cost_all w call ds ts).0 = omega arith in
     ap (λ n. (n, (cost_all w call ds ts).1)) (sym none)
 costs_append w call (k ∷ ks) ds ts =
     let one = cost w call k ts in
     let rest = costs_append w call ks ds one.1 in
-    let sum : one.0 + ((cost_all w call ks one.1).0 + (cost_all w call ds (cost_all w call ks one.1).1).0) ≡ one.0 + (cost_all w call ks one.1).0 + (cost_all w call ds (cost_all w call ks one.1).1).0 = omega arith in
+    let sum : one.0 + ((cost_all w call ks one.1).0 + (cost_all w call ds (cost_all w call ks one.1).1).0)
+    ≡ one.0 + (cost_all w call ks one.1).0 + (cost_all w call ds (cost_all w call ks one.1).1).0 = omega arith in
     ap (λ p. (one.0 + p.0, p.1)) rest ∙ ap (λ n. (n, (cost_all w call ds (cost_all w call ks one.1).1).1)) sum
 
 pub and_parts : (a b : Bool) → (a && b) ≡ true → (a ≡ true) × (b ≡ true)
@@ -49,26 +55,32 @@ below_parts n (c ∷ cs) ds e =
 
 -- The part after a first part.
 
-module _ (ps : List Param) (start one two : Scope) (f g : Env → Env) (before mid after : Context) (p q : StmtOut) (first : StmtDone ps start one f before p mid) (second : StmtDone ps one two g mid q after) where
+module _ (ps : List Param) (start one two : Scope) (f g : Env → Env) (before mid after : Context) (p q : StmtOut)
+    (first : StmtDone ps start one f before p mid) (second : StmtDone ps one two g mid q after) where
   many : (w : Weights) (call : Call) (rest : List LinearForm)
-      → cost_all w call (p.cmds ++ q.cmds) (p.trips ++ (q.trips ++ rest)) ≡ ((cost_all w call p.cmds p.trips).0 + (cost_all w call q.cmds q.trips).0, rest)
+      → cost_all w call (p.cmds ++ q.cmds) (p.trips ++ (q.trips ++ rest))
+      ≡ ((cost_all w call p.cmds p.trips).0 + (cost_all w call q.cmds q.trips).0, rest)
   many w call rest =
       costs_append w call p.cmds q.cmds (p.trips ++ (q.trips ++ rest))
       ∙ ap (λ r. (r.0 + (cost_all w call q.cmds r.1).0, (cost_all w call q.cmds r.1).1)) (first.trips w call (q.trips ++ rest))
       ∙ ap (λ r. ((cost_all w call p.cmds p.trips).0 + r.0, r.1)) (second.trips w call rest)
 
   -- what both cost
-  both_cost : (w : Weights) (call : Call) → (cost_all w call (p.cmds ++ q.cmds) (p.trips ++ q.trips)).0 ≡ (cost_all w call p.cmds p.trips).0 + (cost_all w call q.cmds q.trips).0
+  both_cost : (w : Weights) (call : Call) → (cost_all w call (p.cmds ++ q.cmds) (p.trips ++ q.trips)).0
+      ≡ (cost_all w call p.cmds p.trips).0 + (cost_all w call q.cmds q.trips).0
   both_cost w call =
       let whole = many w call [] in
       let no_more : p.trips ++ (q.trips ++ []) ≡ p.trips ++ q.trips = ap (λ l. p.trips ++ l) (append-nil q.trips) in
       ap (λ l. (cost_all w call (p.cmds ++ q.cmds) l).0) (sym no_more) ∙ ap (λ (r : ℕ × List LinearForm). r.0) whole
 
-  ran : (w : Weights) (call : Call) (numbers : ℕ → ℕ) (env : Env) (mem : Bytes) (vars : Vars) → (a : StmtRan w call f before p mid numbers env mem vars)
-      → StmtRan w call g mid q after a.others (f env) a.left_mem a.left → StmtRan w call (λ e. g (f e)) before (joined p q) after numbers env mem vars
+  ran : (w : Weights) (call : Call) (numbers : ℕ → ℕ) (env : Env) (mem : Bytes) (vars : Vars)
+      → (a : StmtRan w call f before p mid numbers env mem vars)
+      → StmtRan w call g mid q after a.others (f env) a.left_mem a.left
+      → StmtRan w call (λ e. g (f e)) before (joined p q) after numbers env mem vars
   ran w call numbers env mem vars a b = record {
     others = b.others;
-    agree = agree_on (length before.tops) (length mid.tops) numbers a.others b.others (taken_length before.tops mid.tops first.moves.tops) a.agree b.agree;
+    agree = agree_on (length before.tops) (length mid.tops) numbers a.others b.others
+        (taken_length before.tops mid.tops first.moves.tops) a.agree b.agree;
     left_mem = b.left_mem;
     left = b.left;
     ticks = a.ticks + b.ticks;
@@ -101,12 +113,14 @@ module _ (ps : List Param) (start one two : Scope) (f g : Env → Env) (before m
     consistent = second.consistent;
     scoped = second.scoped;
     typed = λ lengths env is. second.typed lengths (f env) (first.typed lengths env is);
-    trips = λ w call rest. (let shape : p.trips ++ q.trips ++ rest ≡ p.trips ++ (q.trips ++ rest) = append_assoc p.trips q.trips rest in
+    trips = λ w call rest. (let shape : p.trips ++ q.trips ++ rest
+        ≡ p.trips ++ (q.trips ++ rest) = append_assoc p.trips q.trips rest in
         ap (cost_all w call (p.cmds ++ q.cmds)) shape ∙ many w call rest ∙ ap (λ n. (n, rest)) (sym (both_cost w call)));
     runs = λ lengths w call numbers env mem vars is fits room. (
         let parts = below_parts (length vars) p.cmds q.cmds room in
         let a = first.runs lengths w call numbers env mem vars is fits parts.0 in
         let count = (shape_of_run w (All p.cmds) mem vars a.left_mem a.left a.ticks a.runs).count in
-        let b = second.runs lengths w call a.others (f env) a.left_mem a.left (first.typed lengths env is) a.fits (ap (λ n. all_below n q.cmds) count ∙ parts.1) in
+        let b = second.runs lengths w call a.others (f env) a.left_mem a.left (first.typed lengths env is) a.fits
+        (ap (λ n. all_below n q.cmds) count ∙ parts.1) in
         ran w call numbers env mem vars a b);
   }

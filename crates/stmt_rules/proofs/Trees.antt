@@ -41,18 +41,21 @@ module _ (turn : Turn) (exprs : (node : ExprNode) (at : ℕ) (e : Expr) → IsSo
   blocks_sound [] = tt
   blocks_sound (y ∷ ys) = (y.1, blocks_sound ys)
 
-  block_in_step : (y : Block-F InBlock InStmt) → BlockIn (roll-Block (map-Block InBlock InStmt Block StmtNode (λ b. b.0) (λ n. n.0) y))
+  block_in_step : (y : Block-F InBlock InStmt)
+      → BlockIn (roll-Block (map-Block InBlock InStmt Block StmtNode (λ b. b.0) (λ n. n.0) y))
   block_in_step y =
       let x : Block-F Block StmtNode = map-Block InBlock InStmt Block StmtNode (λ b. b.0) (λ n. n.0) y in
       rw (fold-roll-Block BlockJudged StmtJudged block_step (judged_step turn) x)
       (λ at owner cond ts. block_sound owner cond (map (judged turn) x.nodes) (nodes_sound y.nodes) at ts)
 
-  stmt_in_step : (y : StmtNode-F InBlock InStmt) → StmtIn (roll-StmtNode (map-StmtNode InBlock InStmt Block StmtNode (λ b. b.0) (λ n. n.0) y))
+  stmt_in_step : (y : StmtNode-F InBlock InStmt)
+      → StmtIn (roll-StmtNode (map-StmtNode InBlock InStmt Block StmtNode (λ b. b.0) (λ n. n.0) y))
   stmt_in_step y =
       let x : StmtNode-F Block StmtNode = map-StmtNode InBlock InStmt Block StmtNode (λ b. b.0) (λ n. n.0) y in
       rw (fold-roll-StmtNode BlockJudged StmtJudged block_step (judged_step turn) x) (record {
         note = λ at. note_sound x.step (are_none x.kids && are_none (map (block_judged turn) x.blocks)) at;
-        statement = λ at t. row_sound x.step (map (expr.judged turn) x.kids) (map (block_judged turn) x.blocks) (kids_sound x.kids) (blocks_sound y.blocks) at t;
+        statement = λ at t. row_sound x.step (map (expr.judged turn) x.kids) (map (block_judged turn) x.blocks)
+            (kids_sound x.kids) (blocks_sound y.blocks) at t;
       })
 
   block_in : (b : Block) → BlockIn b
@@ -68,7 +71,8 @@ module _ (turn : Turn) (exprs : (node : ExprNode) (at : ℕ) (e : Expr) → IsSo
       (λ x y is. subst (λ z. StmtIn (roll-StmtNode z)) is (stmt_in_step y))
 
 pub blocks_are_sound : InstancesAreSound → BlocksAreSound
-blocks_are_sound exprs turn laws block at owner cond ts = block_in turn (λ node n e. exprs turn laws node n e) block at owner cond ts
+blocks_are_sound exprs turn laws block at owner cond ts =
+    block_in turn (λ node n e. exprs turn laws node n e) block at owner cond ts
 
 pub statements_are_sound : InstancesAreSound → StatementsAreSound
 statements_are_sound exprs turn laws node at t = (

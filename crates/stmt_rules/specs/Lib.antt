@@ -3,6 +3,7 @@ pub mod Loops
 pub mod Narrow
 pub mod Nesting
 pub mod Row
+pub mod Simple
 pub mod Small
 pub mod Sound
 pub mod Words

@@ -1,13 +1,11 @@
--- The kept facts of statements, at every depth: both sides keep the limits of linear forms over names in each part, as typing asks.
-use Rattle.std.specs.Prelude.{Bool, true, ◌&&◌, List, map, is_ok}
+-- The kept facts of statements, at every depth: both sides keep the
+-- limits of linear forms over names in each part, as typing asks.
+use Rattle.std.specs.Prelude.{Bool, true, ◌&&◌, List, map}
 use Rattle.rup_base.specs.Gather.{all_true}
-use Rattle.model_syntax.specs.Linear.{linear}
+use Rattle.model_syntax.specs.Linear.{is_narrow}
 use Rattle.model_syntax.specs.declared.stmt.Le.{Le}
 use Rattle.model_syntax.specs.declared.stmt.Stmt.{Stmt, Stmt-F, fold-Stmt}
 use Rattle.model_syntax.specs.declared.stmt.Stmt.TheOpen as s
-
-abbrev pub is_narrow : Le → Bool
-is_narrow r = is_ok (linear r.low) && is_ok (linear r.high)
 
 abbrev pub all_narrow : List Le → Bool
 all_narrow facts = all_true (map is_narrow facts)

@@ -124,7 +124,8 @@ two_blocks blocks at = refuse at 1
 
 -- s-if, whose kid is the test. The nodes of the first block follow those of the kid, and then come those of the second; where a
 -- statement of a block has no node, the fault is this node's.
-abbrev pub branching : Step → List Judged → List BlockJudged → ℕ → Expr → List Name → List Le → List Stmt → List Stmt → Rule StmtOut
+abbrev pub branching : Step → List Judged → List BlockJudged → ℕ → Expr → List Name → List Le → List Stmt → List Stmt
+    → Rule StmtOut
 branching step kids blocks at test names keep first second = do
   bd ← two_blocks blocks at
   _ ← counted step 0 (length keep + length keep) at
@@ -138,7 +139,8 @@ one_block (b ∷ []) at = give b
 one_block blocks at = refuse at 1
 
 -- s-for, of which one kid is the first bound and one the second, and whose block's nodes follow theirs
-abbrev pub looping : Step → List Judged → List BlockJudged → ℕ → Name → Expr → Expr → List Name → List Le → List Stmt → Rule StmtOut
+abbrev pub looping : Step → List Judged → List BlockJudged → ℕ → Name → Expr → Expr → List Name → List Le → List Stmt
+    → Rule StmtOut
 looping step kids blocks at x low high names keep body = do
   b ← one_block blocks at
   _ ← need (for_rule.counts step (length keep)) at 2

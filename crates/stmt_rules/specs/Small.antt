@@ -25,5 +25,6 @@ pub record AreSmall (block : Block) (ts : List Stmt) (count : ℕ) (out : StmtOu
 
 abbrev pub CommandsAreSmall : Type 0
 CommandsAreSmall =
-    (turn : Turn) → Laws turn → (block : Block) (at owner cond : ℕ) (ts : List Stmt) (before : Context) → all_true (map stmt_spellable ts) ≡ true
+    (turn : Turn) → Laws turn → (block : Block) (at owner cond : ℕ) (ts : List Stmt) (before : Context)
+    → all_true (map stmt_spellable ts) ≡ true
     → Yields (λ out after. AreSmall block ts before.entries out) ((block_judged turn block).row at owner cond ts before)

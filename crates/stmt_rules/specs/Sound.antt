@@ -43,7 +43,8 @@ UnwrittenKept before after env after_env =
 abbrev pub IsOutside : Call → List Clause → ℕ → Type 0
 IsOutside call ks address = (i : ℕ) (k : Clause) → slice_get ks i ≡ Some k → Within (range_of call k.param) address → ⊥
 
-pub record StmtRan (w : Weights) (call : Call) (sem : Env → Env) (before : Context) (out : StmtOut) (after : Context) (numbers : ℕ → ℕ) (env : Env) (mem : Bytes) (vars : Vars) : Type 0 where
+pub record StmtRan (w : Weights) (call : Call) (sem : Env → Env) (before : Context) (out : StmtOut) (after : Context)
+    (numbers : ℕ → ℕ) (env : Env) (mem : Bytes) (vars : Vars) : Type 0 where
   -- each symbol of the context before has the number that it had
   pub others : ℕ → ℕ
   pub agree : Agree (length before.tops) numbers others
@@ -57,7 +58,8 @@ pub record StmtRan (w : Weights) (call : Call) (sem : Env → Env) (before : Con
   pub outside : (address : ℕ) → IsOutside call before.clauses address → get left_mem address ≡ get mem address
   pub time : ticks ≤ (cost_all w call out.cmds out.trips).0
 
-pub record StmtDone (ps : List Param) (scope end_scope : Scope) (sem : Env → Env) (before : Context) (out : StmtOut) (after : Context) : Type 0 where
+pub record StmtDone (ps : List Param) (scope end_scope : Scope) (sem : Env → Env) (before : Context) (out : StmtOut)
+    (after : Context) : Type 0 where
   pub moves : Moves before after
   pub consistent : IsConsistent after
   pub scoped : IsScoped ps end_scope after
@@ -67,14 +69,17 @@ pub record StmtDone (ps : List Param) (scope end_scope : Scope) (sem : Env → E
   pub trips : (w : Weights) (call : Call) (rest : List LinearForm)
       → cost_all w call out.cmds (out.trips ++ rest) ≡ ((cost_all w call out.cmds out.trips).0, rest)
   -- where the names in scope have values of their types
-  pub runs : (lengths : Name → ℕ) (w : Weights) (call : Call) (numbers : ℕ → ℕ) (env : Env) (mem : Bytes) (vars : Vars) → IsTyped lengths scope env
-      → FitsBy call numbers before env mem (local_at vars) → all_below (length vars) out.cmds ≡ true → StmtRan w call sem before out after numbers env mem vars
+  pub runs : (lengths : Name → ℕ) (w : Weights) (call : Call) (numbers : ℕ → ℕ) (env : Env) (mem : Bytes) (vars : Vars)
+      → IsTyped lengths scope env
+      → FitsBy call numbers before env mem (local_at vars) → all_below (length vars) out.cmds ≡ true
+      → StmtRan w call sem before out after numbers env mem vars
 
 -- a rule for a statement is sound in every context that says of names what a scope does in which the statement is formed,
 -- spellable and well typed
 abbrev pub IsSoundFor : Stmt → Rule StmtOut → Type 0
 IsSoundFor t rule =
-    (ps : List Param) (scope : Scope) (k : ℕ) (after : types.State) (before : Context) → IsConsistent before → IsScoped ps scope before
+    (ps : List Param) (scope : Scope) (k : ℕ) (after : types.State) (before : Context) → IsConsistent before
+    → IsScoped ps scope before
     → stmt_formed t ≡ true → stmt_spellable t ≡ true → types.stmt t (k, scope) ≡ Ok after
     → Yields (StmtDone ps scope after.1 (run t) before) (rule before)
 
@@ -87,16 +92,20 @@ IsSoundNote rule =
 -- the rows of statements one after another
 abbrev pub AreSound : List Stmt → Rule StmtOut → Type 0
 AreSound ts rule =
-    (ps : List Param) (scope : Scope) (k : ℕ) (after : types.State) (before : Context) → IsConsistent before → IsScoped ps scope before
-    → all_true (map stmt_formed ts) ≡ true → all_true (map stmt_spellable ts) ≡ true → types.in_turn (map types.stmt ts) (k, scope) ≡ Ok after
+    (ps : List Param) (scope : Scope) (k : ℕ) (after : types.State) (before : Context) → IsConsistent before
+    → IsScoped ps scope before
+    → all_true (map stmt_formed ts) ≡ true → all_true (map stmt_spellable ts) ≡ true
+    → types.in_turn (map types.stmt ts) (k, scope) ≡ Ok after
     → Yields (StmtDone ps scope after.1 (in_turn (map run ts)) before) (rule before)
 
 -- with the equations of every book, whatever the derivation of a block gives is right
 abbrev pub BlocksAreSound : Type 0
-BlocksAreSound = (turn : Turn) → Laws turn → (block : Block) (at owner cond : ℕ) (ts : List Stmt) → AreSound ts ((block_judged turn block).row at owner cond ts)
+BlocksAreSound = (turn : Turn) → Laws turn → (block : Block) (at owner cond : ℕ) (ts : List Stmt)
+    → AreSound ts ((block_judged turn block).row at owner cond ts)
 
 -- so is what a node gives that is handed over with a statement: a note for no statement, else for this one
 abbrev pub StatementsAreSound : Type 0
 StatementsAreSound =
     (turn : Turn) → Laws turn → (node : StmtNode) (at : ℕ) (t : Stmt)
-    → ((judged turn node).is_note ≡ true → IsSoundNote (handed (judged turn node) at t)) × ((judged turn node).is_note ≡ false → IsSoundFor t (handed (judged turn node) at t))
+    → ((judged turn node).is_note ≡ true → IsSoundNote (handed (judged turn node) at t))
+    × ((judged turn node).is_note ≡ false → IsSoundFor t (handed (judged turn node) at t))

@@ -4,14 +4,18 @@
 
 pub mod args;
 mod instance;
+mod kids;
 pub mod laws;
 pub mod loops;
 mod measure;
 pub mod nesting;
 mod output;
 pub mod rules;
+mod shape;
+mod simple;
 
-pub use instance::{block_instance, kind_of, stmt_instance};
+pub use instance::{block_instance, stmt_instance};
+pub use kids::kind_of;
 pub use laws::{blocks_are_sound, commands_are_small, statements_are_sound};
 pub use output::StmtOut;
 

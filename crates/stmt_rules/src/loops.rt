@@ -1,18 +1,22 @@
 //! What the rules of loops share: their arguments, and the commands around a loop's body. A loop counts in one local from a
 //! least number on, as long as that is below the number in another.
-ghost use Rattle.std.specs.Prelude.{◌≡◌, ◌++◌, true, IfOk};
+ghost use Rattle.std.specs.Prelude.{◌≡◌, [], ◌∷◌, ◌++◌, true, IfOk};
 ghost use Rattle.std.specs.List.{list_all};
 ghost use Rattle.rup_base.specs.Answers.{Answers, AnswersWith};
 ghost use Rattle.model_syntax.specs.Names.{listed};
 ghost use Rattle.sym_heap.specs.Sides as sides;
+ghost use Rattle.bed_syntax.specs.declared.command.Cmd.{roll-Cmd};
+ghost use Rattle.bed_syntax.specs.declared.command.Cmd.TheOpen as cmd;
 ghost use Rattle.expr_rules.specs.Words as words;
 ghost use Rattle.expr_rules.specs.rules.Len as len;
-ghost use Rattle.stmt_rules.specs.Narrow.{is_narrow, all_narrow};
+ghost use Rattle.model_syntax.specs.Linear.{is_narrow};
+ghost use Rattle.stmt_rules.specs.Narrow.{all_narrow};
 ghost use Rattle.stmt_rules.specs.Nesting as nesting;
 ghost use Rattle.stmt_rules.specs.Loops as spec;
 
 use crate::args::{first_local, flat};
 use crate::nesting::kept_fact;
+use crate::output::{StmtOut, more, one_form};
 use bed_syntax::{BExpr, BOp, Cmd};
 use expr_rules::elements::{address, size_of};
 use expr_rules::words::{made, no_instance, number_in, operation};
@@ -144,13 +148,40 @@ pub fn counting(
 ) -> Result<List<Cmd>, NoMemory>
     ensures { IfOk result (λ all. all ≡ first ++ spec.counting count last low high commands) }
 {
-    let test = is_below(alloc, count, last)?;
+    let started = both_set(first, count, last, low, high)?;
+    let turns = turns_of(alloc, count, last, commands)?;
+    more(started, turns)
+}
+
+/// The sets of both locals, after other commands.
+fn both_set(
+    first: List<Cmd>,
+    count: u32,
+    last: u32,
+    low: BExpr,
+    high: BExpr,
+) -> Result<List<Cmd>, NoMemory>
+    ensures { IfOk result (λ all. all ≡ first ++ roll-Cmd (cmd.Set count low) ∷ roll-Cmd (cmd.Set last high) ∷ []) }
+{
+    let all = more(first, Cmd::Set(count, low))?;
+    more(all, Cmd::Set(last, high))
+}
+
+/// The turns, as long as the count is below the last number.
+fn turns_of(alloc: Global, count: u32, last: u32, commands: List<Cmd>) -> Result<Cmd, NoMemory>
+    ensures { IfOk result (λ turns. turns ≡ roll-Cmd (cmd.While (spec.is_below count last) (spec.turn_of count commands))) }
+{
     let turn = Box::new(alloc, turn_of(alloc, count, commands)?)?;
-    let mut all = first;
-    all.push(Cmd::Set(count, low))?;
-    all.push(Cmd::Set(last, high))?;
-    all.push(Cmd::While(test, turn))?;
-    Ok(all)
+    let test = is_below(alloc, count, last)?;
+    Ok(Cmd::While(test, turn))
+}
+
+/// The commands of a loop over the elements of an array, whose trip form is its length.
+pub fn with_length(alloc: Global, cmds: List<Cmd>, clause: Clause) -> Result<StmtOut, NoMemory>
+    ensures { IfOk result (λ out. out ≡ record { cmds = cmds; trips = clause.length ∷ [] }) }
+{
+    let trips = one_form(alloc, clause.length)?;
+    Ok(StmtOut { cmds, trips })
 }
 
 /// The number of elements of an array, or the local that has it.

@@ -13,7 +13,8 @@ ghost use Rattle.sym_heap.specs.Sides.{form_in, form_of};
 ghost use Rattle.sym_heap.specs.Turns as turns;
 ghost use Rattle.expr_rules.specs.Words as words;
 ghost use Rattle.stmt_rules.specs.Nesting as spec;
-ghost use Rattle.stmt_rules.specs.Narrow.{is_narrow, all_narrow};
+ghost use Rattle.model_syntax.specs.Linear.{is_narrow};
+ghost use Rattle.stmt_rules.specs.Narrow.{all_narrow};
 
 use expr_rules::words::{fact, fresh, made, no_instance};
 use model_syntax::{Le, Scalar};

@@ -1,8 +1,9 @@
 //! What the derivations of statements give.
-ghost use Rattle.std.specs.Prelude.{◌≡◌, ◌++◌, IfOk};
+ghost use Rattle.std.specs.Prelude.{◌≡◌, [], ◌∷◌, ◌++◌, IfOk};
 ghost use Rattle.stmt_rules.specs.Words as spec;
 
-use bed_syntax::Cmd;
+use bed_syntax::{BExpr, Cmd};
+use expr_rules::ExprOut;
 use rup_base::{List, NoMemory};
 use side_certs::Form;
 use std::alloc::Global;
@@ -30,8 +31,7 @@ impl StmtOut {
     pub fn only(alloc: Global, command: Cmd) -> Result<StmtOut, NoMemory>
         ensures { IfOk result (λ out. out ≡ spec.only command) }
     {
-        let mut cmds = List::new(alloc);
-        cmds.push(command)?;
+        let cmds = one_command(alloc, command)?;
         Ok(StmtOut {
             cmds,
             trips: List::new(alloc),
@@ -47,6 +47,45 @@ impl StmtOut {
             trips: all_forms(self.trips, next.trips)?,
         })
     }
+}
+
+/// The code of what an expression gives.
+pub fn code_of(p: ExprOut) -> BExpr
+    ensures { result ≡ p.code }
+{
+    p.code
+}
+
+/// The code of what an expression gives, and its form.
+pub fn code_and_form(p: ExprOut) -> (BExpr, Form)
+    ensures { result ≡ (p.code, p.form) }
+{
+    (p.code, p.form)
+}
+
+/// A further command.
+pub fn more(before: List<Cmd>, command: Cmd) -> Result<List<Cmd>, NoMemory>
+    ensures { IfOk result (λ all. all ≡ before ++ command ∷ []) }
+{
+    let mut all = before;
+    all.push(command)?;
+    Ok(all)
+}
+
+/// One command.
+pub fn one_command(alloc: Global, command: Cmd) -> Result<List<Cmd>, NoMemory>
+    ensures { IfOk result (λ all. all ≡ command ∷ []) }
+{
+    more(List::new(alloc), command)
+}
+
+/// One form.
+pub fn one_form(alloc: Global, form: Form) -> Result<List<Form>, NoMemory>
+    ensures { IfOk result (λ all. all ≡ form ∷ []) }
+{
+    let mut all = List::new(alloc);
+    all.push(form)?;
+    Ok(all)
 }
 
 fn all_commands(first: List<Cmd>, next: List<Cmd>) -> Result<List<Cmd>, NoMemory>

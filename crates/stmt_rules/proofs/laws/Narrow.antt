@@ -2,7 +2,7 @@
 use Rattle.std.proofs.Common.{◌≡◌, refl, subst, ℕ, Bool, true, false, ◌&&◌, List, [], ◌∷◌, map, Ok}
 use Rattle.rup_base.specs.declared.refusal.TypePlace.TheVariants.{Params, Statement}
 use Rattle.model_syntax.specs.Limits.{next}
-use Rattle.model_syntax.specs.Linear.{linear}
+use Rattle.model_syntax.specs.Linear.{linear, is_narrow}
 use Rattle.model_syntax.specs.Names.{Name}
 use Rattle.model_syntax.specs.Scope.{Scope, bind}
 use Rattle.model_syntax.specs.ExprType.{type_of, wanted}
@@ -15,7 +15,7 @@ use Rattle.model_syntax.specs.declared.stmt.Le.{Le}
 use Rattle.model_syntax.specs.declared.stmt.Stmt.{Stmt, Stmt-F, map-Stmt, roll-Stmt, fold-roll-Stmt, ind-Stmt}
 use Rattle.model_syntax.specs.declared.stmt.Stmt.TheOpen as s
 use Rattle.model_syntax.proofs.laws.Answered.{first_answered, at_answered}
-use Rattle.stmt_rules.specs.Narrow.{is_narrow, all_narrow, narrow_step, narrow, are_narrow}
+use Rattle.stmt_rules.specs.Narrow.{all_narrow, narrow_step, narrow, are_narrow}
 
 both : {a b : Bool} → a ≡ true → b ≡ true → (a && b) ≡ true
 both {a = true} {b = b} p q = q
@@ -66,9 +66,11 @@ if_narrow test xs keep first second k c after is =
     let five = first_answered (types.at (Statement k) (types.joined xs three.0.1 four.0.1 c)) _ after four.1.1 in
     let six = first_answered (types.at (Statement k) (types.facts keep five.0)) _ after five.1.1 in
     let kept = at_answered (Statement k) (types.facts keep five.0) six.0 six.1.0 in
-    both (both (facts_narrow keep five.0 kept) (block_narrow first (next k) c three.0 three.1.0)) (block_narrow second three.0.0 c four.0 four.1.0)
+    both (both (facts_narrow keep five.0 kept) (block_narrow first (next k) c three.0 three.1.0))
+    (block_narrow second three.0.0 c four.0 four.1.0)
 
-for_narrow : (x : Name) (low high : Expr) (xs : List Name) (keep : List Le) (body : List Proved) (k : ℕ) (c : Scope) (after : types.State)
+for_narrow : (x : Name) (low high : Expr) (xs : List Name) (keep : List Le) (body : List Proved) (k : ℕ) (c : Scope)
+    (after : types.State)
     → types.stmt_step (s.For x low high xs keep (map types.stmt (bare body))) (k, c) ≡ Ok after
     → (all_narrow keep && are_narrow (bare body)) ≡ true
 for_narrow x low high xs keep body k c after is =

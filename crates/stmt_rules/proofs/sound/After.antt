@@ -24,9 +24,11 @@ module _ (names : List Name) (mid one two : Context) (facts more : List LinearFo
   pub more_tops : take (length mid.tops) two.tops ≡ mid.tops
   more_tops = take_on mid.tops one.tops two.tops first.tops second.tops
 
-  pub moves_after : (fs : List LinearForm) → NoneLost names one ended_over → ParamsOnce mid.clauses → Moves mid (with_facts fs (settle names one ended_over))
+  pub moves_after : (fs : List LinearForm) → NoneLost names one ended_over → ParamsOnce mid.clauses
+      → Moves mid (with_facts fs (settle names one ended_over))
   moves_after fs lost once = record {
-    arrays = subst (λ (ks : List Clause). Follow mid.clauses ks) (sym s.clauses) (over_moves names mid one two once first.arrays).arrays;
+    arrays = subst (λ (ks : List Clause). Follow mid.clauses ks) (sym s.clauses)
+        (over_moves names mid one two once first.arrays).arrays;
     locals = λ x h at in_list. by x h at in_list (listed x names) refl;
     reserved = s.reserved;
     facts = rw s.facts (take_front mid.facts fs);
@@ -42,5 +44,6 @@ module _ (names : List Name) (mid one two : Context) (facts more : List LinearFo
     by x h at in_list true e =
         let there = beside (scalar (settle names one ended_over) x) (scalar one x) h at (rw e at (s.places x)) in
         let reserved : has there.scalar_there.local (mid.reserved ++ unlisted_locals names mid.scalars) ≡ true =
-        more_reserved there.scalar_there.local mid.reserved (unlisted_locals names mid.scalars) (subst (λ (l : ℕ). has l mid.reserved ≡ true) there.local in_list) in
+        more_reserved there.scalar_there.local mid.reserved (unlisted_locals names mid.scalars)
+        (subst (λ (l : ℕ). has l mid.reserved ≡ true) there.local in_list) in
         first.locals x there.scalar_there there.is reserved ∙ ap Some (sym there.local)

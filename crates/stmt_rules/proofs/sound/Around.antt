@@ -1,5 +1,6 @@
 -- What loops over an array share: locals that are set in them, names that they bind, and types.
-use Rattle.std.proofs.Common.{◌≡◌, ◌≢◌, refl, sym, ◌∙◌, ap, subst, arith, ℕ, zero, suc, ◌≤◌, Bool, true, false, not, nat_eq, pos, List, [], ◌∷◌, drop, length, Option, Some, None}
+use Rattle.std.proofs.Common.{◌≡◌, ◌≢◌, refl, sym, ◌∙◌, ap, subst, arith, ℕ, zero, suc, ◌≤◌, Bool, true, false, not, nat_eq, pos}
+use Rattle.std.proofs.Common.{List, [], ◌∷◌, drop, length, Option, Some, None}
 use Rattle.std.specs.List.{list_all}
 use Rattle.std.proofs.lemmas.Bool.{le-leb}
 use Rattle.std.proofs.lemmas.Bool.Decides.{nat_tests}
@@ -33,10 +34,12 @@ use Rattle.stmt_rules.proofs.Sequence.{and_parts}
 
 -- what is kept is none of the free ones
 pub reserved_apart : (c : Context) (l : ℕ) (x : Option Name) → is_free c l x ≡ true → (p : ℕ) → has p c.reserved ≡ true → p ≢ l
-reserved_apart c l x free p is same_one = absurd (let bad : true ≡ false = sym is ∙ ap (λ j. has j c.reserved) same_one ∙ free_reserved c l x free in cc)
+reserved_apart c l x free p is same_one =
+    absurd (let bad : true ≡ false = sym is ∙ ap (λ j. has j c.reserved) same_one ∙ free_reserved c l x free in cc)
 
 -- a local that is free, and not that of a new scalar, is free after it for any name
-pub free_bound : (c : Context) (h : Held) (l : ℕ) (x : Name) → is_free c l None ≡ true → h.local ≢ l → is_free (with_scalar h c) l (Some x) ≡ true
+pub free_bound : (c : Context) (h : Held) (l : ℕ) (x : Name) → is_free c l None ≡ true → h.local ≢ l
+    → is_free (with_scalar h c) l (Some x) ≡ true
 free_bound c h l x free apart =
     let parts = and_parts (not (has l c.reserved)) (list_all (leaves_free l None) c.scalars) free in
     rw parts.0 (all c.scalars parts.1)
@@ -48,7 +51,8 @@ free_bound c h l x free apart =
     old : (g : Held) → leaves_free l None g ≡ true → leaves_free l (Some x) g ≡ true
     old g is = rw is refl
 
-    all : (hs : List Held) → list_all (leaves_free l None) hs ≡ true → list_all (leaves_free l (Some x)) (put_first (is_scalar h.name) h hs) ≡ true
+    all : (hs : List Held) → list_all (leaves_free l None) hs ≡ true
+        → list_all (leaves_free l (Some x)) (put_first (is_scalar h.name) h hs) ≡ true
     all [] is = rw (new (nat_eq h.local l) refl) refl
     all (g ∷ gs) is = by (is_scalar h.name g) refl (all gs parts.1) where
       parts : (leaves_free l None g ≡ true) × (list_all (leaves_free l None) gs ≡ true)
@@ -60,41 +64,50 @@ free_bound c h l x free apart =
           let both = and_parts (leaves_free l None k) (list_all (leaves_free l None) ks) each in
           rw (old k both.0) (rest ks both.1)
 
-      by : (b : Bool) → is_scalar h.name g ≡ b → list_all (leaves_free l (Some x)) (put_first (is_scalar h.name) h gs) ≡ true → list_all (leaves_free l (Some x)) (put_first (is_scalar h.name) h (g ∷ gs)) ≡ true
+      by : (b : Bool) → is_scalar h.name g ≡ b → list_all (leaves_free l (Some x)) (put_first (is_scalar h.name) h gs) ≡ true
+          → list_all (leaves_free l (Some x)) (put_first (is_scalar h.name) h (g ∷ gs)) ≡ true
       by true e more = rw e (rw (new (nat_eq h.local l) refl) (rest gs parts.1))
       by false e more = rw e (rw (old g parts.0) more)
 
 -- Names.
 
 -- a scalar that is bound to its own type leaves the scope as it was
-pub rebound : (scope : Scope) (x : Name) (t : NameType) → look_up scope x ≡ Some t → (y : Name) → look_up (bind x t scope) y ≡ look_up scope y
+pub rebound : (scope : Scope) (x : Name) (t : NameType) → look_up scope x ≡ Some t → (y : Name)
+    → look_up (bind x t scope) y ≡ look_up scope y
 rebound scope x t is y = by (same x y) refl where
   by : (b : Bool) → same x y ≡ b → look_up (bind x t scope) y ≡ look_up scope y
   by true e = up_here scope x y t e ∙ sym is ∙ ap (look_up scope) (same_is x y e)
   by false e = up_else scope x y t e
 
 -- its new place is one of the same scope
-pub rebound_scoped : (ps : List Param) (scope : Scope) (c : Context) (h : Held) → look_up scope h.name ≡ Some (One h.kind) → IsScoped ps scope c → IsScoped ps scope (with_scalar h c)
+pub rebound_scoped : (ps : List Param) (scope : Scope) (c : Context) (h : Held) → look_up scope h.name ≡ Some (One h.kind)
+    → IsScoped ps scope c → IsScoped ps scope (with_scalar h c)
 rebound_scoped ps scope c h is scoped =
     alike_scoped ps (bind h.name (One h.kind) scope) scope (with_scalar h c) (λ y. sym (rebound scope h.name (One h.kind) is y))
     (bound_scoped ps scope c h (ap scalar_may_take is) scoped)
 
 -- the type of a scalar that stands
-pub type_of_scalar : (ps : List Param) (scope : Scope) (c : Context) → IsScoped ps scope c → (x : Name) (h : Held) → scalar c x ≡ Some h → look_up scope x ≡ Some (One h.kind)
-type_of_scalar ps scope c scoped x h at = let p = scalar_stands c x h at in ap (look_up scope) (sym p.named) ∙ scoped.scalars p.place h p.at
+pub type_of_scalar : (ps : List Param) (scope : Scope) (c : Context) → IsScoped ps scope c → (x : Name) (h : Held)
+    → scalar c x ≡ Some h → look_up scope x ≡ Some (One h.kind)
+type_of_scalar ps scope c scoped x h at = let p = scalar_stands c x h at in
+    ap (look_up scope) (sym p.named) ∙ scoped.scalars p.place h p.at
 
 -- the elements and the length of an array that has a clause
 pub record ArrayIs (ps : List Param) (w : Scalar) (k : Clause) (entries : ℕ) : Type 0 where
   pub size : element_size w ≡ Some k.size
   pub known : Known entries k.length
 
-pub array_is : (ps : List Param) (scope : Scope) (c : Context) (a : Name) (k : Clause) (w : Scalar) (len : Len) → IsScoped ps scope c → own c a ≡ Some k → look_up scope a ≡ Some (Many w len) → ArrayIs ps w k c.entries
+pub array_is : (ps : List Param) (scope : Scope) (c : Context) (a : Name) (k : Clause) (w : Scalar) (len : Len)
+    → IsScoped ps scope c → own c a ≡ Some k → look_up scope a ≡ Some (Many w len) → ArrayIs ps w k c.entries
 array_is ps scope c a k w len scoped owned typed =
     let p = clause_stands c a k owned in
     let is = scoped.clauses p.place k p.at in
     let both : Some (Many is.element is.len) ≡ Some (Many w len) = sym is.type ∙ ap (look_up scope) p.named ∙ typed in
     let one : is.element ≡ w = cc in
-    record { size = subst (λ (u : Scalar). element_size u ≡ Some k.size) one is.size; known = length_known is.len k.length k.length_local is.length_is }
+    record {
+      size = subst (λ (u : Scalar). element_size u ≡ Some k.size) one is.size;
+      known = length_known is.len k.length k.length_local is.length_is;
+    }
   where
     length_known : (n : Len) (f : LinearForm) (l : Option ℕ) → IsLength (entry_names ps) n f l → Known c.entries f
     length_known (Fixed n) f l is = subst (λ (g : LinearForm). Known c.entries g) (sym is.0) (known_constant c.entries (pos n))

@@ -1,5 +1,7 @@
--- How a side of a conditional begins: the facts of the flag are added, and the locals of scalars that are not listed are reserved.
-use Rattle.std.proofs.Common.{◌≡◌, refl, sym, ap, subst, ℕ, zero, suc, Bool, true, false, nat_eq, List, [], ◌∷◌, ◌++◌, append_assoc, length}
+-- How a side of a conditional begins: the facts of the flag are added,
+-- and the locals of scalars that are not listed are reserved.
+use Rattle.std.proofs.Common.{◌≡◌, refl, sym, ap, subst, ℕ, zero, suc, Bool, true, false, nat_eq, List, [], ◌∷◌, ◌++◌}
+use Rattle.std.proofs.Common.{append_assoc, length}
 use Rattle.std.proofs.lemmas.List.{append-nil}
 use Rattle.rv_memory.specs.Ranges.{Bytes}
 use Rattle.side_certs.specs.LinearForm.{LinearForm}
@@ -41,8 +43,10 @@ all_added_are at (f ∷ fs) c = by (has_room c) refl (all_added_are at fs (with_
 first_known : (n : ℕ) (f : LinearForm) (fs : List LinearForm) → AllKnown n (f ∷ fs) → AllKnown n fs
 first_known n f fs known i g at = known (suc i) g at
 
-pub facts_consistent : (fs : List LinearForm) (c : Context) → AllKnown (length c.tops) fs → IsConsistent c → IsConsistent (with_facts fs c)
-facts_consistent [] c known s = subst IsConsistent (ap (λ (r : List LinearForm). record c { facts = r }) (sym (append-nil c.facts))) s
+pub facts_consistent : (fs : List LinearForm) (c : Context) → AllKnown (length c.tops) fs → IsConsistent c
+    → IsConsistent (with_facts fs c)
+facts_consistent [] c known s =
+    subst IsConsistent (ap (λ (r : List LinearForm). record c { facts = r }) (sym (append-nil c.facts))) s
 facts_consistent (f ∷ fs) c known s =
     subst IsConsistent (ap (λ (r : List LinearForm). record c { facts = r }) (append_assoc c.facts (f ∷ []) fs))
     (facts_consistent fs (with_fact f c) (first_known (length c.tops) f fs known) (consistent_fact c f (known zero f refl) s))
@@ -50,20 +54,26 @@ facts_consistent (f ∷ fs) c known s =
 pub facts_fit : (call : Call) (v : ℕ → ℕ) (env : Env) (mem : Bytes) (locals : Locals) (fs : List LinearForm) (c : Context)
     → AllKnown (length c.tops) fs → AllHold v fs → FitsBy call v c env mem locals → FitsBy call v (with_facts fs c) env mem locals
 facts_fit call v env mem locals [] c known hold fits =
-    subst (λ (d : Context). FitsBy call v d env mem locals) (ap (λ (r : List LinearForm). record c { facts = r }) (sym (append-nil c.facts))) fits
+    subst (λ (d : Context). FitsBy call v d env mem locals)
+    (ap (λ (r : List LinearForm). record c { facts = r }) (sym (append-nil c.facts))) fits
 facts_fit call v env mem locals (f ∷ fs) c known hold fits =
-    subst (λ (d : Context). FitsBy call v d env mem locals) (ap (λ (r : List LinearForm). record c { facts = r }) (append_assoc c.facts (f ∷ []) fs))
+    subst (λ (d : Context). FitsBy call v d env mem locals)
+    (ap (λ (r : List LinearForm). record c { facts = r }) (append_assoc c.facts (f ∷ []) fs))
     (facts_fit call v env mem locals fs (with_fact f c) (first_known (length c.tops) f fs known) (λ i g at. hold (suc i) g at)
     (fits_fact call v c f env mem locals (known zero f refl) (hold zero f refl) fits))
 
 -- a state that fits after the test fits where a side begins whose facts hold
-pub begun_fits : (call : Call) (v : ℕ → ℕ) (env : Env) (mem : Bytes) (locals : Locals) (names : List Name) (fs : List LinearForm) (c : Context)
-    → AllKnown (length c.tops) fs → AllHold v fs → FitsBy call v c env mem locals → FitsBy call v (begun names fs c) env mem locals
+pub begun_fits : (call : Call) (v : ℕ → ℕ) (env : Env) (mem : Bytes) (locals : Locals) (names : List Name) (fs : List LinearForm)
+    (c : Context)
+    → AllKnown (length c.tops) fs → AllHold v fs → FitsBy call v c env mem locals
+    → FitsBy call v (begun names fs c) env mem locals
 begun_fits call v env mem locals names fs c known hold fits =
-    reserving_fits call v (with_facts fs c) (unlisted_locals names c.scalars) env mem locals (facts_fit call v env mem locals fs c known hold fits)
+    reserving_fits call v (with_facts fs c) (unlisted_locals names c.scalars) env mem locals
+    (facts_fit call v env mem locals fs c known hold fits)
 
 -- a scope counts for scalars, clauses and entries alone
-pub begun_scoped : (ps : List Param) (scope : Scope) (names : List Name) (fs : List LinearForm) (c : Context) → IsScoped ps scope c → IsScoped ps scope (begun names fs c)
+pub begun_scoped : (ps : List Param) (scope : Scope) (names : List Name) (fs : List LinearForm) (c : Context)
+    → IsScoped ps scope c → IsScoped ps scope (begun names fs c)
 begun_scoped ps scope names fs c s = record {
   scalars = s.scalars;
   every_scalar = s.every_scalar;
@@ -74,7 +84,8 @@ begun_scoped ps scope names fs c s = record {
   few = s.few;
 }
 
-pub facts_scoped : (ps : List Param) (scope : Scope) (fs : List LinearForm) (c : Context) → IsScoped ps scope c → IsScoped ps scope (with_facts fs c)
+pub facts_scoped : (ps : List Param) (scope : Scope) (fs : List LinearForm) (c : Context) → IsScoped ps scope c
+    → IsScoped ps scope (with_facts fs c)
 facts_scoped ps scope fs c s = record {
   scalars = s.scalars;
   every_scalar = s.every_scalar;
@@ -86,9 +97,11 @@ facts_scoped ps scope fs c s = record {
 }
 
 -- what the start of a side gives
-pub begins_are : (at : ℕ) (names : List Name) (fs : List LinearForm) (c : Context) → Yields (λ _ d. d ≡ begun names fs c) (begins at names fs c.scalars c)
+pub begins_are : (at : ℕ) (names : List Name) (fs : List LinearForm) (c : Context)
+    → Yields (λ _ d. d ≡ begun names fs c) (begins at names fs c.scalars c)
 begins_are at names fs c =
-    yields_then (λ _ d. d ≡ begun names fs c) c (λ _ d. d ≡ with_facts fs c) (all_added at fs) (λ _. unlisted_reserved names c.scalars) (all_added_are at fs c)
+    yields_then (λ _ d. d ≡ begun names fs c) c (λ _ d. d ≡ with_facts fs c) (all_added at fs)
+    (λ _. unlisted_reserved names c.scalars) (all_added_are at fs c)
     (λ u d is. ap (λ (z : Context). reserving (unlisted_locals names c.scalars) z) is)
 
 -- locals that are reserved stay so with further ones
@@ -99,7 +112,8 @@ more_reserved l (n ∷ ns) ms is = by (nat_eq n l) refl (λ rest. more_reserved 
   by true e more = rw e refl
   by false e more = rw e (more (rw e at is))
 
-pub begun_consistent : (names : List Name) (fs : List LinearForm) (c : Context) → AllKnown (length c.tops) fs → IsConsistent c → IsConsistent (begun names fs c)
+pub begun_consistent : (names : List Name) (fs : List LinearForm) (c : Context) → AllKnown (length c.tops) fs → IsConsistent c
+    → IsConsistent (begun names fs c)
 begun_consistent names fs c known good = record {
   entries_known = s.entries_known;
   scalars_known = s.scalars_known;

@@ -1,5 +1,6 @@
 -- The command of a conditional: what it costs at most, its trip forms, and that it runs as one of its sides does.
-use Rattle.std.proofs.Common.{◌≡◌, sym, ◌∙◌, ap, subst, arith, ℕ, zero, suc, ◌+◌, max, Bool, true, false, ◌&&◌, List, [], ◌++◌, append_assoc, Some}
+use Rattle.std.proofs.Common.{◌≡◌, sym, ◌∙◌, ap, subst, arith, ℕ, zero, suc, ◌+◌, max, Bool, true, false, ◌&&◌, List, [], ◌++◌}
+use Rattle.std.proofs.Common.{append_assoc, Some}
 use Rattle.std.proofs.lemmas.List.{append-nil}
 use Rattle.rv_memory.specs.Ranges.{Bytes}
 use Rattle.side_certs.specs.LinearForm.{LinearForm}
@@ -20,7 +21,8 @@ use Rattle.stmt_rules.proofs.Sequence.{and_parts}
 
 -- the commands have as many loops as there are trip forms
 abbrev pub HasTrips : Weights → Call → StmtOut → Type 0
-HasTrips w call p = (rest : List LinearForm) → cost_all w call p.cmds (p.trips ++ rest) ≡ ((cost_all w call p.cmds p.trips).0, rest)
+HasTrips w call p = (rest : List LinearForm) → cost_all w call p.cmds (p.trips ++ rest)
+    ≡ ((cost_all w call p.cmds p.trips).0, rest)
 
 module _ (w : Weights) (call : Call) where
   cost_seq : (p : StmtOut) (ts : List LinearForm) → cost w call (sequence p) ts ≡ cost_all w call p.cmds ts
@@ -38,7 +40,8 @@ module _ (w : Weights) (call : Call) where
       let test = expr_weight w e + w.test in
       let one = (cost_all w call p.cmds p.trips).0 in
       let two = (cost_all w call q.cmds q.trips).0 in
-      let whole : cost w call (roll-Cmd (c.Cond e (sequence p) (sequence q))) (p.trips ++ (q.trips ++ rest)) ≡ (test + max one two, rest) =
+      let whole : cost w call (roll-Cmd (c.Cond e (sequence p) (sequence q))) (p.trips ++ (q.trips ++ rest))
+      ≡ (test + max one two, rest) =
       cost_cond e (sequence p) (sequence q) (p.trips ++ (q.trips ++ rest))
       ∙ ap (sides test (cost w call (sequence q))) (cost_seq p (p.trips ++ (q.trips ++ rest)) ∙ trips_p (q.trips ++ rest))
       ∙ ap (λ (r : ℕ × List LinearForm). (test + max one r.0, r.1)) (cost_seq q (q.trips ++ rest) ∙ trips_q rest) in
@@ -47,15 +50,18 @@ module _ (w : Weights) (call : Call) where
 
   -- what it costs with its own trip forms alone
   pub choosing_bound : (e : BExpr) (p q : StmtOut) → HasTrips w call p → HasTrips w call q
-      → (cost_all w call (choosing e p q).cmds (p.trips ++ q.trips)).0 ≡ expr_weight w e + w.test + max (cost_all w call p.cmds p.trips).0 (cost_all w call q.cmds q.trips).0
+      → (cost_all w call (choosing e p q).cmds (p.trips ++ q.trips)).0
+      ≡ expr_weight w e + w.test + max (cost_all w call p.cmds p.trips).0 (cost_all w call q.cmds q.trips).0
   choosing_bound e p q trips_p trips_q =
       let no_more : p.trips ++ (q.trips ++ []) ≡ p.trips ++ q.trips = ap (λ l. p.trips ++ l) (append-nil q.trips) in
-      ap (λ l. (cost_all w call (choosing e p q).cmds l).0) (sym no_more) ∙ ap (λ (r : ℕ × List LinearForm). r.0) (choosing_cost e p q trips_p trips_q [])
+      ap (λ l. (cost_all w call (choosing e p q).cmds l).0) (sym no_more)
+      ∙ ap (λ (r : ℕ × List LinearForm). r.0) (choosing_cost e p q trips_p trips_q [])
 
   pub choosing_trips : (e : BExpr) (p q : StmtOut) → HasTrips w call p → HasTrips w call q → HasTrips w call (choosing e p q)
   choosing_trips e p q trips_p trips_q rest =
       let shape : p.trips ++ q.trips ++ rest ≡ p.trips ++ (q.trips ++ rest) = append_assoc p.trips q.trips rest in
-      ap (cost_all w call (choosing e p q).cmds) shape ∙ choosing_cost e p q trips_p trips_q rest ∙ ap (λ n. (n, rest)) (sym (choosing_bound e p q trips_p trips_q))
+      ap (cost_all w call (choosing e p q).cmds) shape ∙ choosing_cost e p q trips_p trips_q rest
+      ∙ ap (λ n. (n, rest)) (sym (choosing_bound e p q trips_p trips_q))
 
 module _ (w : Weights) (e : BExpr) (p q : StmtOut) (mem after : Bytes) (vars left : Vars) (ticks : ℕ) where
   abbrev Chosen : ℕ → Type 0
@@ -64,7 +70,8 @@ module _ (w : Weights) (e : BExpr) (p q : StmtOut) (mem after : Bytes) (vars lef
   alone : (n : ℕ) → Runs w (One (roll-Cmd (c.Cond e (sequence p) (sequence q)))) mem vars after left n → Chosen n
   alone n run =
       let none : n + 0 ≡ n = omega arith in
-      subst Chosen none (next (roll-Cmd (c.Cond e (sequence p) (sequence q))) [] n 0 mem after after vars left left run (done after left))
+      subst Chosen none (next (roll-Cmd (c.Cond e (sequence p) (sequence q))) [] n 0 mem after after vars left left run
+      (done after left))
 
   -- where the test is not 0 the first side runs
   pub first_chosen : (n : ℕ) → value e mem vars ≡ Some n → is_true n ≡ true → Runs w (All p.cmds) mem vars after left ticks
@@ -85,10 +92,12 @@ module _ (w : Weights) (e : BExpr) (p q : StmtOut) (mem after : Bytes) (vars lef
     by m bad = grind (arith, bad)
 
 -- each local that the command sets is below a number where the sides' are
-pub sides_below : (n : ℕ) (e : BExpr) (p q : StmtOut) → all_below n (choosing e p q).cmds ≡ true → (all_below n p.cmds ≡ true) × (all_below n q.cmds ≡ true)
+pub sides_below : (n : ℕ) (e : BExpr) (p q : StmtOut) → all_below n (choosing e p q).cmds ≡ true
+    → (all_below n p.cmds ≡ true) × (all_below n q.cmds ≡ true)
 sides_below n e p q is =
     let whole = and_parts (sets_below n (roll-Cmd (c.Cond e (sequence p) (sequence q)))) true is in
-    let open_one : sets_below n (roll-Cmd (c.Cond e (sequence p) (sequence q))) ≡ (sets_below n (sequence p) && sets_below n (sequence q)) =
+    let open_one : sets_below n (roll-Cmd (c.Cond e (sequence p) (sequence q)))
+    ≡ (sets_below n (sequence p) && sets_below n (sequence q)) =
     fold-roll-Cmd Bool (sets_below_step n) (c.Cond e (sequence p) (sequence q)) in
     let both = and_parts (sets_below n (sequence p)) (sets_below n (sequence q)) (sym open_one ∙ whole.0) in (
       sym (fold-roll-Cmd Bool (sets_below_step n) (c.Seq p.cmds)) ∙ both.0,

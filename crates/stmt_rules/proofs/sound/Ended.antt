@@ -1,5 +1,6 @@
 -- The state after one of two blocks has run: it fits the context that goes on from both ends.
-use Rattle.std.proofs.Common.{◌≡◌, refl, sym, ◌∙◌, ap, subst, arith, ℕ, ◌≤◌, inl, inr, ◌⊎◌, nat_lt, Bool, true, false, ◌||◌, List, [], ◌∷◌, length, Option, Some, None, pos, slice_get}
+use Rattle.std.proofs.Common.{◌≡◌, refl, sym, ◌∙◌, ap, subst, arith, ℕ, ◌≤◌, inl, inr, ◌⊎◌, nat_lt, Bool, true, false, ◌||◌, List}
+use Rattle.std.proofs.Common.{[], ◌∷◌, length, Option, Some, None, pos, slice_get}
 use Rattle.std.specs.List.{list_any}
 use Rattle.std.proofs.lemmas.Bool.{ltb-true}
 use Rattle.std.proofs.lemmas.Bool.Decides.{nat_tests}
@@ -34,7 +35,8 @@ use Rattle.stmt_rules.specs.Sound.{UnwrittenKept}
 use Rattle.stmt_rules.proofs.sound.Begun.{facts_fit}
 use Rattle.stmt_rules.proofs.sound.Joined.{forms_of}
 use Rattle.stmt_rules.proofs.sound.Kept.{forms_hold}
-use Rattle.stmt_rules.proofs.sound.Meeting.{over, Meeting, ArrayAt, array_at, taken_is, follow, is_over, lost, settled, apart, same_scalar, alike_gone, alike_there}
+use Rattle.stmt_rules.proofs.sound.Meeting.{over, Meeting, ArrayAt, array_at, taken_is, follow, is_over, lost, settled, apart}
+use Rattle.stmt_rules.proofs.sound.Meeting.{same_scalar, alike_gone, alike_there}
 
 -- the names, either way round
 listed_any : (names : List Name) (x : Name) → list_any (λ y. same y x) names ≡ listed x names
@@ -59,7 +61,8 @@ greater_parts n m k one two is = by (nat_lt n m) refl is where
       (first, omega (arith, first, not_less, two))
 
 -- what a block has left that began where a state fits, and which has ended in the context `end_`
-pub record HasRun (names : List Name) (keep : List Le) (call : Call) (numbers others : ℕ → ℕ) (mid end_ : Context) (env end_env : Env) (mem end_mem : Bytes) (locals end_locals : Locals) : Type 0 where
+pub record HasRun (names : List Name) (keep : List Le) (call : Call) (numbers others : ℕ → ℕ) (mid end_ : Context)
+    (env end_env : Env) (mem end_mem : Bytes) (locals end_locals : Locals) : Type 0 where
   pub began : FitsBy call numbers mid env mem locals
   pub fits : FitsBy call others end_ end_env end_mem end_locals
   pub agree : Agree (length mid.tops) numbers others
@@ -77,11 +80,13 @@ pub record StandsAlike (end_ : Context) (y : Name) (h : Held) : Type 0 where
 -- the context is one of two ends
 pub record IsEnd (names : List Name) (mid one two end_ : Context) : Type 0 where
   pub follow : Follow mid.clauses end_.clauses
-  pub arrays : (i : ℕ) (n : Clause) → slice_get end_.clauses i ≡ Some n → (slice_get one.clauses i ≡ Some n) ⊎ (slice_get two.clauses i ≡ Some n)
+  pub arrays : (i : ℕ) (n : Clause) → slice_get end_.clauses i ≡ Some n
+      → (slice_get one.clauses i ≡ Some n) ⊎ (slice_get two.clauses i ≡ Some n)
   pub gone : (y : Name) → listed y names ≡ true → scalar one y ≡ None → scalar end_ y ≡ None
   pub there : (y : Name) (h : Held) → listed y names ≡ true → scalar one y ≡ Some h → StandsAlike end_ y h
 
-module _ (ps : List Param) (scope one_scope two_scope after : Scope) (names : List Name) (mid one two : Context) (m : Meeting ps scope one_scope two_scope after names mid one two) where
+module _ (ps : List Param) (scope one_scope two_scope after : Scope) (names : List Name) (mid one two : Context)
+    (m : Meeting ps scope one_scope two_scope after names mid one two) where
   pub first_end : IsEnd names mid one two one
   first_end = record {
     follow = m.one_follow;
@@ -101,9 +106,11 @@ module _ (ps : List Param) (scope one_scope two_scope after : Scope) (names : Li
         record { scalar_there = l.0; is = l.1; local = s.local; kind = s.kind });
   }
 
-module _ (ps : List Param) (scope one_scope two_scope after : Scope) (names : List Name) (keep : List Le) (mid one two : Context) (m : Meeting ps scope one_scope two_scope after names mid one two)
+module _ (ps : List Param) (scope one_scope two_scope after : Scope) (names : List Name) (keep : List Le) (mid one two : Context)
+    (m : Meeting ps scope one_scope two_scope after names mid one two)
     (call : Call) (numbers others : ℕ → ℕ) (end_ : Context) (env end_env : Env) (mem end_mem : Bytes) (locals end_locals : Locals)
-    (e : IsEnd names mid one two end_) (r : HasRun names keep call numbers others mid end_ env end_env mem end_mem locals end_locals) where
+    (e : IsEnd names mid one two end_)
+    (r : HasRun names keep call numbers others mid end_ env end_env mem end_mem locals end_locals) where
   abbrev left : Env
   left = carry names end_env env
 
@@ -131,21 +138,33 @@ module _ (ps : List Param) (scope one_scope two_scope after : Scope) (names : Li
         let found : Some n ≡ Some a.at_one = sym here ∙ a.is_one in
         let is : n ≡ a.at_one = cc in
         let writes : n.writes ≡ a.at_one.writes = ap (λ (z : Clause). z.writes) is in
-        record { name = ap (λ (z : Clause). z.name) is; as_before = λ out. writes ∙ (a.pair.as_before out).1.0; writes = λ p q. writes ∙ p }
+        record {
+          name = ap (λ (z : Clause). z.name) is;
+          as_before = λ out. writes ∙ (a.pair.as_before out).1.0;
+          writes = λ p q. writes ∙ p;
+        }
     by (inr here) =
         let found : Some n ≡ Some a.at_two = sym here ∙ a.is_two in
         let is : n ≡ a.at_two = cc in
         let writes : n.writes ≡ a.at_two.writes = ap (λ (z : Clause). z.writes) is in
-        record { name = ap (λ (z : Clause). z.name) is ∙ sym a.pair.name; as_before = λ out. writes ∙ (a.pair.as_before out).1.1; writes = λ p q. writes ∙ q }
+        record {
+          name = ap (λ (z : Clause). z.name) is ∙ sym a.pair.name;
+          as_before = λ out. writes ∙ (a.pair.as_before out).1.1;
+          writes = λ p q. writes ∙ q;
+        }
 
   -- a listed name has its array of the end
-  array_carried : (i : ℕ) (n : Clause) (x : Name) → slice_get end_.clauses i ≡ Some n → n.name ≡ x → listed x names ≡ true → value_of left x ≡ value_of end_env n.name
-  array_carried i n x at named in_list = by (value_of end_env n.name) refl (r.fits.clauses n.name n (clause_found end_ r.fits.consistent i n at)).array where
-    by : (o : Option Arg) → value_of end_env n.name ≡ o → IsArray n.size (value_of end_env n.name) → value_of left x ≡ value_of end_env n.name
-    by None at_none is = absurd (subst (λ (o : Option Arg). IsArray n.size o) at_none is)
-    by (Some v) at_some is = carried names end_env env x v in_list (ap (value_of end_env) (sym named) ∙ at_some) ∙ sym at_some
+  array_carried : (i : ℕ) (n : Clause) (x : Name) → slice_get end_.clauses i ≡ Some n → n.name ≡ x → listed x names ≡ true
+      → value_of left x ≡ value_of end_env n.name
+  array_carried i n x at named in_list =
+      by (value_of end_env n.name) refl (r.fits.clauses n.name n (clause_found end_ r.fits.consistent i n at)).array where
+        by : (o : Option Arg) → value_of end_env n.name ≡ o → IsArray n.size (value_of end_env n.name)
+            → value_of left x ≡ value_of end_env n.name
+        by None at_none is = absurd (subst (λ (o : Option Arg). IsArray n.size o) at_none is)
+        by (Some v) at_some is = carried names end_env env x v in_list (ap (value_of end_env) (sym named) ∙ at_some) ∙ sym at_some
 
-  array_holds : (i : ℕ) (j n : Clause) → slice_get joint.clauses i ≡ Some j → slice_get end_.clauses i ≡ Some n → value_of left j.name ≡ value_of end_env n.name
+  array_holds : (i : ℕ) (j n : Clause) → slice_get joint.clauses i ≡ Some j → slice_get end_.clauses i ≡ Some n
+      → value_of left j.name ≡ value_of end_env n.name
   array_holds i j n at_j at_n = by (listed j.name names) refl where
     s : IsEnded mid one i j
     s = ended names mid one two (follow ps scope one_scope two_scope after names mid one two m) i j at_j
@@ -190,8 +209,10 @@ module _ (ps : List Param) (scope one_scope two_scope after : Scope) (names : Li
 
     by : (b : Bool) → listed a.at_one.name names ≡ b → value_of left l.name ≡ value_of env k.name
     by true in_list =
-        let taken : l ≡ record k { name = a.at_one.name; writes = greater a.at_one.writes a.at_two.writes } = is ∙ rw in_list refl in
-        let writes : greater a.at_one.writes a.at_two.writes ≡ k.writes = ap (λ (z : Clause). z.writes) (sym taken) ∙ same_writes in
+        let taken : l ≡ record k { name = a.at_one.name; writes = greater a.at_one.writes a.at_two.writes } =
+        is ∙ rw in_list refl in
+        let writes : greater a.at_one.writes a.at_two.writes ≡ k.writes = ap (λ (z : Clause). z.writes) (sym taken) ∙ same_writes
+        in
         let parts = greater_parts a.at_one.writes a.at_two.writes k.writes a.same_one.writes a.same_two.writes writes in
         let n = later mid.clauses end_.clauses i k e.follow at_k in
         let here = is_array i k n.clause a n.at in
@@ -201,7 +222,8 @@ module _ (ps : List Param) (scope one_scope two_scope after : Scope) (names : Li
     by false out =
         let taken : l ≡ k = is ∙ rw out refl in
         let name = (a.pair.as_before out).0 in
-        ap (λ (z : Clause). value_of left z.name) taken ∙ carried_else names end_env env k.name (ap (λ x. listed x names) name ∙ out)
+        ap (λ (z : Clause). value_of left z.name) taken
+        ∙ carried_else names end_env env k.name (ap (λ x. listed x names) name ∙ out)
 
   -- Scalars.
 
@@ -213,62 +235,85 @@ module _ (ps : List Param) (scope one_scope two_scope after : Scope) (names : Li
         let t = e.there y h in_list at in
         let f = r.fits.scalars y t.scalar_there t.is in
         let kind : f.number ≤ top_of h.kind = subst (λ (u : Scalar). f.number ≤ top_of u) t.kind f.kind in
-        rw at (f.number, carried names end_env env y (arg.Word f.number) in_list f.value, kind, ap end_locals (sym t.local) ∙ f.local)
+        rw at (
+          f.number,
+          carried names end_env env y (arg.Word f.number) in_list f.value,
+          kind,
+          ap end_locals (sym t.local)
+              ∙ f.local,
+        )
 
   rest : FitsRest (among names) call zeroed joint left end_mem end_locals
   rest =
-      ends_fit names call numbers others zeroed mid joint end_ env end_env left mem end_mem locals end_locals (is_over ps scope one_scope two_scope after names mid one two m) e.follow r.began r.fits r.agree
+      ends_fit names call numbers others zeroed mid joint end_ env end_env left mem end_mem locals end_locals
+      (is_over ps scope one_scope two_scope after names mid one two m) e.follow r.began r.fits r.agree
       (nothing_agrees (length mid.tops) numbers) (nothing_below mid two.tops numbers m.tops r.began.holds.1) holds
 
   settled_fits : FitsOn call (length joint.tops) zeroed last left end_mem end_locals
-  settled_fits = settle_fits names one call zeroed joint left end_mem end_locals stood (apart ps scope one_scope two_scope after names mid one two m) rest
+  settled_fits = settle_fits names one call zeroed joint left end_mem end_locals stood
+      (apart ps scope one_scope two_scope after names mid one two m) rest
 
   -- Kept facts, from the numbers after both.
-  module _ (final : ℕ → ℕ) (agree : Agree (length mid.tops) numbers final) (fits : FitsBy call final last left end_mem end_locals) where
-    abbrev SameValue : Name → Type 0
-    SameValue x = value_at final (form_in last.scalars x) ≡ value_at others (end_form names end_.scalars mid.scalars x)
+  module _ (final : ℕ → ℕ) (agree : Agree (length mid.tops) numbers final) (fits : FitsBy call final last left end_mem end_locals)
+    where
+      abbrev SameValue : Name → Type 0
+      SameValue x = value_at final (form_in last.scalars x) ≡ value_at others (end_form names end_.scalars mid.scalars x)
 
-    listed_value : (x : Name) → listed x names ≡ true → value_at final (form_or_nothing (scalar last x)) ≡ value_at others (form_or_nothing (scalar end_ x))
-    listed_value x in_list = by (scalar one x) refl (scalar last x) refl where
-      place : place_in (scalar last x) ≡ place_in (scalar one x)
-      place = rw in_list at ((settled ps scope one_scope two_scope after names mid one two m).places x)
+      listed_value : (x : Name) → listed x names ≡ true → value_at final (form_or_nothing (scalar last x))
+          ≡ value_at others (form_or_nothing (scalar end_ x))
+      listed_value x in_list = by (scalar one x) refl (scalar last x) refl where
+        place : place_in (scalar last x) ≡ place_in (scalar one x)
+        place = rw in_list at ((settled ps scope one_scope two_scope after names mid one two m).places x)
 
-      by : (o : Option Held) → scalar one x ≡ o → (p : Option Held) → scalar last x ≡ p → value_at final (form_or_nothing (scalar last x)) ≡ value_at others (form_or_nothing (scalar end_ x))
-      by None at None now = rw (now, e.gone x in_list at) refl
-      by None at (Some k) now = absurd (let bad : Some (k.local, k.kind) ≡ None = sym (ap place_in now) ∙ place ∙ ap place_in at in cc)
-      by (Some h) at None now = absurd (let bad : None ≡ Some (h.local, h.kind) = sym (ap place_in now) ∙ place ∙ ap place_in at in cc)
-      by (Some h) at (Some k) now =
-          let t = e.there x h in_list at in
-          let f = r.fits.scalars x t.scalar_there t.is in
-          let g = fits.scalars x k now in
-          let values : Some (arg.Word g.number) ≡ Some (arg.Word f.number) = sym g.value ∙ carried names end_env env x (arg.Word f.number) in_list f.value in
-          let one_value : arg.Word g.number ≡ arg.Word f.number = cc in
-          let number : g.number ≡ f.number = cc in
-          rw (now, t.is) (g.form ∙ ap pos number ∙ sym f.form)
+        by : (o : Option Held) → scalar one x ≡ o → (p : Option Held) → scalar last x ≡ p
+            → value_at final (form_or_nothing (scalar last x)) ≡ value_at others (form_or_nothing (scalar end_ x))
+        by None at None now = rw (now, e.gone x in_list at) refl
+        by None at (Some k) now = absurd
+            (let bad : Some (k.local, k.kind) ≡ None = sym (ap place_in now) ∙ place ∙ ap place_in at in cc)
+        by (Some h) at None now = absurd
+            (let bad : None ≡ Some (h.local, h.kind) = sym (ap place_in now) ∙ place ∙ ap place_in at in cc)
+        by (Some h) at (Some k) now =
+            let t = e.there x h in_list at in
+            let f = r.fits.scalars x t.scalar_there t.is in
+            let g = fits.scalars x k now in
+            let values : Some (arg.Word g.number)
+            ≡ Some (arg.Word f.number) = sym g.value ∙ carried names end_env env x (arg.Word f.number) in_list f.value in
+            let one_value : arg.Word g.number ≡ arg.Word f.number = cc in
+            let number : g.number ≡ f.number = cc in
+            rw (now, t.is) (g.form ∙ ap pos number ∙ sym f.form)
 
-    unlisted_value : (x : Name) → listed x names ≡ false → value_at final (form_or_nothing (scalar last x)) ≡ value_at others (form_or_nothing (scalar mid x))
-    unlisted_value x out = rw ((settled ps scope one_scope two_scope after names mid one two m).unlisted x out) (by (scalar mid x) refl) where
-      by : (o : Option Held) → scalar mid x ≡ o → value_at final (form_or_nothing (scalar mid x)) ≡ value_at others (form_or_nothing (scalar mid x))
-      by None at = rw at refl
-      by (Some h) at =
-          let p = scalar_stands mid x h at in
-          let known = r.began.consistent.scalars_known p.place h p.at in
-          rw at (known_same (length mid.tops) h.form numbers final known agree ∙ sym (known_same (length mid.tops) h.form numbers others known r.agree))
+      unlisted_value : (x : Name) → listed x names ≡ false → value_at final (form_or_nothing (scalar last x))
+          ≡ value_at others (form_or_nothing (scalar mid x))
+      unlisted_value x out = rw ((settled ps scope one_scope two_scope after names mid one two m).unlisted x out)
+          (by (scalar mid x) refl) where
+            by : (o : Option Held) → scalar mid x ≡ o → value_at final (form_or_nothing (scalar mid x))
+                ≡ value_at others (form_or_nothing (scalar mid x))
+            by None at = rw at refl
+            by (Some h) at =
+                let p = scalar_stands mid x h at in
+                let known = r.began.consistent.scalars_known p.place h p.at in
+                rw at (known_same (length mid.tops) h.form numbers final known agree
+                ∙ sym (known_same (length mid.tops) h.form numbers others known r.agree))
 
-    same_value : (x : Name) → SameValue x
-    same_value x = by (listed x names) refl where
-      by : (b : Bool) → listed x names ≡ b → SameValue x
-      by true in_list = let test : list_any (λ y. same y x) names ≡ true = listed_any names x ∙ in_list in rw test (listed_value x in_list)
-      by false out = let test : list_any (λ y. same y x) names ≡ false = listed_any names x ∙ out in rw test (unlisted_value x out)
+      same_value : (x : Name) → SameValue x
+      same_value x = by (listed x names) refl where
+        by : (b : Bool) → listed x names ≡ b → SameValue x
+        by true in_list = let test : list_any (λ y. same y x) names ≡ true = listed_any names x ∙ in_list in
+            rw test (listed_value x in_list)
+        by false out = let test : list_any (λ y. same y x) names ≡ false = listed_any names x ∙ out in
+            rw test (unlisted_value x out)
 
-    kept_hold : AllHold final (forms_of (form_in last.scalars) keep)
-    kept_hold = forms_hold others final (end_form names end_.scalars mid.scalars) (form_in last.scalars) same_value keep r.hold
+      kept_hold : AllHold final (forms_of (form_in last.scalars) keep)
+      kept_hold = forms_hold others final (end_form names end_.scalars mid.scalars) (form_in last.scalars) same_value keep r.hold
 
-    kept_fit : AllKnown (length last.tops) (forms_of (form_in last.scalars) keep) → FitsBy call final (with_facts (forms_of (form_in last.scalars) keep) last) left end_mem end_locals
-    kept_fit known = facts_fit call final left end_mem end_locals (forms_of (form_in last.scalars) keep) last known kept_hold fits
+      kept_fit : AllKnown (length last.tops) (forms_of (form_in last.scalars) keep)
+          → FitsBy call final (with_facts (forms_of (form_in last.scalars) keep) last) left end_mem end_locals
+      kept_fit known = facts_fit call final left end_mem end_locals (forms_of (form_in last.scalars) keep) last known kept_hold
+          fits
 
   pub ended_fits : AllKnown (length last.tops) (forms_of (form_in last.scalars) keep)
       → FitsOn call (length mid.tops) numbers (with_facts (forms_of (form_in last.scalars) keep) last) left end_mem end_locals
   ended_fits known =
-      let agree = agree_on (length mid.tops) (length joint.tops) numbers zeroed settled_fits.0 (taken_length mid.tops two.tops m.tops) (nothing_agrees (length mid.tops) numbers) settled_fits.1 in
+      let agree = agree_on (length mid.tops) (length joint.tops) numbers zeroed settled_fits.0
+      (taken_length mid.tops two.tops m.tops) (nothing_agrees (length mid.tops) numbers) settled_fits.1 in
       (settled_fits.0, agree, kept_fit settled_fits.0 agree settled_fits.2 known)

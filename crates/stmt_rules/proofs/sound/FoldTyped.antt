@@ -29,7 +29,8 @@ pub record FoldTyped (t a x : Name) (v : Expr) (k : ℕ) (scope : Scope) (after 
   pub value : type_of v (bind x (One element) scope) ≡ Ok kind
   pub is : (next k, scope) ≡ after
 
-pub fold_typed : (t a x : Name) (v : Expr) (k : ℕ) (scope : Scope) (after : types.State) → types.stmt_step (s.Fold t a x v) (k, scope) ≡ Ok after → FoldTyped t a x v k scope after
+pub fold_typed : (t a x : Name) (v : Expr) (k : ℕ) (scope : Scope) (after : types.State)
+    → types.stmt_step (s.Fold t a x v) (k, scope) ≡ Ok after → FoldTyped t a x v k scope after
 fold_typed t a x v k scope after is =
     let one = at_answered (Statement k) _ after is in
     let sum = first_answered (scalar_in (look_up scope t)) _ after one in
@@ -50,7 +51,8 @@ fold_typed t a x v k scope after is =
       is = answer_is (next k, scope) after value.1.1;
     }
   where
-    named_parts : (b : Bool) → same t x ≡ b → types.folded_element t x scope ≡ Ok tt → (same t x ≡ false) × (scalar_may_take (look_up scope x) ≡ Ok tt)
+    named_parts : (b : Bool) → same t x ≡ b → types.folded_element t x scope ≡ Ok tt
+        → (same t x ≡ false) × (scalar_may_take (look_up scope x) ≡ Ok tt)
     named_parts true e h = absurd (let bad : ◌≡◌ {A = types.Rule} (Err why.Repeated) (Ok tt) = rw e at h in cc)
     named_parts false e h = (e, rw e at h)
 
@@ -62,7 +64,8 @@ pub record MapTyped (a x : Name) (v : Expr) (k : ℕ) (scope : Scope) (after : t
   pub value : type_of v (bind x (One element) scope) ≡ Ok element
   pub is : (next k, scope) ≡ after
 
-pub map_typed : (a x : Name) (v : Expr) (k : ℕ) (scope : Scope) (after : types.State) → types.stmt_step (s.Map a x v) (k, scope) ≡ Ok after → MapTyped a x v k scope after
+pub map_typed : (a x : Name) (v : Expr) (k : ℕ) (scope : Scope) (after : types.State) → types.stmt_step (s.Map a x v) (k, scope)
+    ≡ Ok after → MapTyped a x v k scope after
 map_typed a x v k scope after is =
     let one = at_answered (Statement k) _ after is in
     let array = first_answered (element_in (look_up scope a)) _ after one in

@@ -1,5 +1,6 @@
 -- How the block of s-for begins: the context there, whatever state there is.
-use Rattle.std.proofs.Common.{◌≡◌, ◌≢◌, refl, sym, ◌∙◌, ap, subst, arith, ℕ, suc, ◌≤◌, Bool, true, false, nat_eq, pos, negsuc, List, [], ◌∷◌, ◌++◌, append_assoc, length, take, Option, Some, None, Ok, slice_get}
+use Rattle.std.proofs.Common.{◌≡◌, ◌≢◌, refl, sym, ◌∙◌, ap, subst, arith, ℕ, suc, ◌≤◌, Bool, true, false, nat_eq, pos, negsuc}
+use Rattle.std.proofs.Common.{List, [], ◌∷◌, ◌++◌, append_assoc, length, take, Option, Some, None, Ok, slice_get}
 use Rattle.std.specs.Prelude.{is_some}
 use Rattle.std.specs.List.{list_all}
 use Rattle.std.proofs.lemmas.Bool.Decides.{nat_tests}
@@ -12,7 +13,8 @@ use Rattle.model_syntax.specs.declared.stmt.Le.{Le}
 use Rattle.model_syntax.specs.Names.{Name, listed}
 use Rattle.model_syntax.specs.Scope.{Scope, look_up, bind, scalar_may_take}
 use Rattle.sym_heap.specs.declared.parts.Held.{Held}
-use Rattle.sym_heap.specs.Context.{Context, scalar, has, held, is_free, leaves_free, has_room, top_of, with_top, with_fact, with_reserved}
+use Rattle.sym_heap.specs.Context.{Context, scalar, has, held, is_free, leaves_free, has_room, top_of, with_top, with_fact}
+use Rattle.sym_heap.specs.Context.{with_reserved}
 use Rattle.sym_heap.specs.Fits.{Known, IsConsistent}
 use Rattle.sym_heap.specs.Moves.{Moves, Began}
 use Rattle.sym_heap.specs.Scoped.{IsScoped}
@@ -20,12 +22,14 @@ use Rattle.sym_heap.specs.Settle.{settle, target}
 use Rattle.sym_heap.specs.Sides.{form_in, form_or_nothing}
 use Rattle.sym_heap.specs.Start.{with_facts}
 use Rattle.sym_heap.specs.Turns.{reserving, with_count, unlisted_locals, block_start}
-use Rattle.sym_heap.proofs.laws.Extending.{longer, known_symbol, known_constant, known_plus, known_times, consistent_top, consistent_fact}
+use Rattle.sym_heap.proofs.laws.Extending.{longer, known_symbol, known_constant, known_plus, known_times, consistent_top}
+use Rattle.sym_heap.proofs.laws.Extending.{consistent_fact}
 use Rattle.sym_heap.proofs.laws.Lookups.{scalar_stands, scalar_found, name_of_scalar, names_differ}
 use Rattle.sym_heap.proofs.laws.Moves.{take_all, take_front, take_on}
 use Rattle.sym_heap.proofs.laws.Scopes.{fresh_scoped, bound_scoped}
 use Rattle.sym_heap.proofs.laws.Settling.{place_in, IsSettled, TargetsApart, settle_static, settle_consistent}
-use Rattle.sym_heap.proofs.laws.States.{known_of, known_more, free_reserved, free_scalars, leaves_none, taken_length, bound_consistent}
+use Rattle.sym_heap.proofs.laws.States.{known_of, known_more, free_reserved, free_scalars, leaves_none, taken_length}
+use Rattle.sym_heap.proofs.laws.States.{bound_consistent}
 use Rattle.sym_heap.proofs.laws.Turns.{settled_self}
 use Rattle.expr_rules.specs.Sound.{AllKnown, Yields}
 use Rattle.expr_rules.specs.Words.{◌>>=◌, Rule, fresh, fact, sum_of}
@@ -40,7 +44,8 @@ use Rattle.stmt_rules.proofs.sound.Kept.{forms_known}
 -- Listed scalars that settle where they stand.
 
 -- of a context in which the scalars stand as in c, every name is placed as it was
-pub settles_places : (names : List Name) (c d : Context) → d.scalars ≡ c.scalars → (x : Name) → place_in (scalar (settle names c d) x) ≡ place_in (scalar c x)
+pub settles_places : (names : List Name) (c d : Context) → d.scalars ≡ c.scalars → (x : Name)
+    → place_in (scalar (settle names c d) x) ≡ place_in (scalar c x)
 settles_places names c d stood x = s.places x ∙ ap place_in (by (listed x names) refl) where
   as_in : (y : Name) → scalar d y ≡ scalar c y
   as_in y = ap (λ hs. scalar (record c { scalars = hs }) y) stood
@@ -74,7 +79,8 @@ pub record Placed (c : Context) (x : Name) (h : Held) : Type 0 where
   pub local : h.local ≡ before.local
   pub kind : h.kind ≡ before.kind
 
-pub placed_of : (c : Context) (x : Name) (o : Option Held) (h : Held) → o ≡ Some h → place_in o ≡ place_in (scalar c x) → Placed c x h
+pub placed_of : (c : Context) (x : Name) (o : Option Held) (h : Held) → o ≡ Some h → place_in o ≡ place_in (scalar c x)
+    → Placed c x h
 placed_of c x o h at places = by (scalar c x) refl where
   by : (p : Option Held) → scalar c x ≡ p → Placed c x h
   by None e = absurd (let bad : Some (h.local, h.kind) ≡ None = sym (ap place_in at) ∙ places ∙ ap place_in e in cc)
@@ -88,7 +94,8 @@ there_too None None is there = there
 there_too (Some h) p is there = refl
 there_too None (Some h) is there = absurd (let bad : None ≡ Some (h.local, h.kind) = is in cc)
 
-pub settles_scoped : (ps : List Param) (scope : Scope) (names : List Name) (c d : Context) → IsConsistent (settle names c d) → d.scalars ≡ c.scalars → IsScoped ps scope d
+pub settles_scoped : (ps : List Param) (scope : Scope) (names : List Name) (c d : Context) → IsConsistent (settle names c d)
+    → d.scalars ≡ c.scalars → IsScoped ps scope d
     → IsScoped ps scope (settle names c d)
 settles_scoped ps scope names c d good stood scoped = record {
   scalars = λ i h at. scalar_type i h at;
@@ -110,12 +117,15 @@ settles_scoped ps scope names c d good stood scoped = record {
 
   scalar_type : (i : ℕ) (h : Held) → slice_get (settle names c d).scalars i ≡ Some h → look_up scope h.name ≡ Some (One h.kind)
   scalar_type i h at =
-      let was = placed_of d h.name (scalar (settle names c d) h.name) h (scalar_found (settle names c d) good i h at) (places h.name) in
+      let was = placed_of d h.name (scalar (settle names c d) h.name) h (scalar_found (settle names c d) good i h at)
+      (places h.name) in
       let stands = scalar_stands d h.name was.before was.at in
-      ap (look_up scope) (sym stands.named) ∙ scoped.scalars stands.place was.before stands.at ∙ ap (λ (t : Scalar). Some (One t)) (sym was.kind)
+      ap (look_up scope) (sym stands.named) ∙ scoped.scalars stands.place was.before stands.at
+      ∙ ap (λ (t : Scalar). Some (One t)) (sym was.kind)
 
 -- a context whose scalars, clauses and entries are those of another says of names what that does
-pub scoped_as : (ps : List Param) (scope : Scope) (c : Context) (facts : List LinearForm) (tops reserved : List ℕ) → IsScoped ps scope c
+pub scoped_as : (ps : List Param) (scope : Scope) (c : Context) (facts : List LinearForm) (tops reserved : List ℕ)
+    → IsScoped ps scope c
     → IsScoped ps scope (record c { facts = facts; tops = tops; reserved = reserved })
 scoped_as ps scope c facts tops reserved s = record {
   scalars = s.scalars;
@@ -140,7 +150,8 @@ reserving_consistent c ls s = record {
   lengths_reserved = λ i k l at is. more_reserved l c.reserved ls (s.lengths_reserved i k l at is);
 }
 
-all_of : {A : Type 0} (test : A → Bool) (xs : List A) → ((i : ℕ) (x : A) → slice_get xs i ≡ Some x → test x ≡ true) → list_all test xs ≡ true
+all_of : {A : Type 0} (test : A → Bool) (xs : List A) → ((i : ℕ) (x : A) → slice_get xs i ≡ Some x → test x ≡ true)
+    → list_all test xs ≡ true
 all_of test [] each = refl
 all_of test (x ∷ xs) each = rw (each 0 x refl) (all_of test xs (λ i y at. each (suc i) y at))
 
@@ -170,9 +181,11 @@ module _ (x : Name) (names : List Name) (keep : List Le) (k : Counter) (low high
 
   -- with the facts
   abbrev pub begun_loop : Context
-  begun_loop = with_fact (below_high count_symbol high) (with_fact (from_low count_symbol low) (with_facts (forms_of (form_in bare_start.scalars) keep) bare_start))
+  begun_loop = with_fact (below_high count_symbol high)
+      (with_fact (from_low count_symbol low) (with_facts (forms_of (form_in bare_start.scalars) keep) bare_start))
 
-  reserved_is : with_reserved k.last (with_reserved k.count (reserving (unlisted_locals names c.scalars) (with_count x k.count listed_new))) ≡ bare_start
+  reserved_is : with_reserved k.last
+      (with_reserved k.count (reserving (unlisted_locals names c.scalars) (with_count x k.count listed_new))) ≡ bare_start
   reserved_is =
       let us = unlisted_locals names c.scalars in
       let r = (with_count x k.count listed_new).reserved in
@@ -183,27 +196,38 @@ module _ (x : Name) (names : List Name) (keep : List Le) (k : Counter) (low high
   abbrev Is : Unit {0} → Context → Type 0
   Is u d = d ≡ begun_loop
 
-  with_the_facts : (at : ℕ) (d : Context) → d ≡ bare_start → Yields Is ((all_kept at keep >>= (λ _. fact at (from_low count_symbol low) >>= (λ _. fact at (below_high count_symbol high)))) d)
-  with_the_facts at d is = subst (λ (z : Context). Yields Is ((all_kept at keep >>= (λ _. fact at (from_low count_symbol low) >>= (λ _. fact at (below_high count_symbol high)))) z)) (sym is)
-      (yields_then Is bare_start (λ _ e. e ≡ kept) (all_kept at keep) (λ _. fact at (from_low count_symbol low) >>= (λ _. fact at (below_high count_symbol high)))
+  with_the_facts : (at : ℕ) (d : Context) → d ≡ bare_start
+      → Yields Is ((all_kept at keep
+      >>= (λ _. fact at (from_low count_symbol low) >>= (λ _. fact at (below_high count_symbol high)))) d)
+  with_the_facts at d is = subst
+      (λ (z : Context). Yields Is ((all_kept at keep
+      >>= (λ _. fact at (from_low count_symbol low) >>= (λ _. fact at (below_high count_symbol high)))) z)) (sym is)
+      (yields_then Is bare_start (λ _ e. e ≡ kept) (all_kept at keep)
+      (λ _. fact at (from_low count_symbol low) >>= (λ _. fact at (below_high count_symbol high)))
       (all_kept_are at keep bare_start)
-      (λ u e e_is. subst (λ (z : Context). Yields Is ((fact at (from_low count_symbol low) >>= (λ _. fact at (below_high count_symbol high))) z)) (sym e_is)
-      (yields_fact Is kept at (from_low count_symbol low) (λ _. fact at (below_high count_symbol high)) (last_fact (with_fact (from_low count_symbol low) kept) refl))))
+      (λ u e e_is. subst (λ (z : Context).
+      Yields Is ((fact at (from_low count_symbol low) >>= (λ _. fact at (below_high count_symbol high))) z)) (sym e_is)
+      (yields_fact Is kept at (from_low count_symbol low) (λ _. fact at (below_high count_symbol high))
+      (last_fact (with_fact (from_low count_symbol low) kept) refl))))
     where
       kept : Context
       kept = with_facts (forms_of (form_in bare_start.scalars) keep) bare_start
 
-      last_fact : (e : Context) → e ≡ with_fact (from_low count_symbol low) kept → Yields Is (fact at (below_high count_symbol high) e)
+      last_fact : (e : Context) → e ≡ with_fact (from_low count_symbol low) kept
+          → Yields Is (fact at (below_high count_symbol high) e)
       last_fact e e_is =
-          yields_more (λ _ d. d ≡ with_fact (below_high count_symbol high) e) Is (λ u d d_is. d_is ∙ ap (with_fact (below_high count_symbol high)) e_is)
+          yields_more (λ _ d. d ≡ with_fact (below_high count_symbol high) e) Is
+          (λ u d d_is. d_is ∙ ap (with_fact (below_high count_symbol high)) e_is)
           (fact at (below_high count_symbol high) e) (fact_is at (below_high count_symbol high) e)
 
   pub begins_are : (at : ℕ) → Yields Is (begins at x names keep k low high c.scalars c)
   begins_are at =
       yields_then Is c (λ _ d. d ≡ listed_new) (all_renewed at names c.scalars) rest (all_renewed_are at names c c)
       (λ u d is. subst (λ (z : Context). Yields Is (rest u z)) (sym is)
-      (yields_fresh Is listed_new at (top_of Word) (λ s. placed x k.count s Word >>= (λ _. loop_reserved names k c.scalars >>= facts s))
-      (with_the_facts at (with_reserved k.last (with_reserved k.count (reserving (unlisted_locals names c.scalars) (with_count x k.count listed_new)))) reserved_is)))
+      (yields_fresh Is listed_new at (top_of Word)
+      (λ s. placed x k.count s Word >>= (λ _. loop_reserved names k c.scalars >>= facts s))
+      (with_the_facts at (with_reserved k.last
+      (with_reserved k.count (reserving (unlisted_locals names c.scalars) (with_count x k.count listed_new)))) reserved_is)))
     where
       facts : LinearForm → Unit {0} → Rule (Unit {0})
       facts s u = all_kept at keep >>= (λ _. fact at (from_low s low) >>= (λ _. fact at (below_high s high)))
@@ -214,16 +238,19 @@ module _ (x : Name) (names : List Name) (keep : List Le) (k : Counter) (low high
   -- a local that is free before is free for x where the listed scalars have settled
   free_new : IsConsistent listed_new → (l : ℕ) → is_free c l None ≡ true → is_free listed_new l (Some x) ≡ true
   free_new good l free =
-      let unreserved : has l listed_new.reserved ≡ false = ap (has l) (settled_self names c).reserved ∙ free_reserved c l None free in
+      let unreserved : has l listed_new.reserved
+      ≡ false = ap (has l) (settled_self names c).reserved ∙ free_reserved c l None free in
       rw unreserved (all_of (leaves_free l (Some x)) listed_new.scalars (λ i h at. leaves i h at (nat_eq h.local l) refl))
     where
       other : (i : ℕ) (h : Held) → slice_get listed_new.scalars i ≡ Some h → h.local ≢ l
       other i h at is =
-          let was = placed_of c h.name (scalar listed_new h.name) h (scalar_found listed_new good i h at) (settles_places names c c refl h.name) in
+          let was = placed_of c h.name (scalar listed_new h.name) h (scalar_found listed_new good i h at)
+          (settles_places names c c refl h.name) in
           let p = scalar_stands c h.name was.before was.at in
           leaves_none l was.before (free_scalars c l None free p.place was.before p.at) (sym was.local ∙ is)
 
-      leaves : (i : ℕ) (h : Held) → slice_get listed_new.scalars i ≡ Some h → (b : Bool) → nat_eq h.local l ≡ b → leaves_free l (Some x) h ≡ true
+      leaves : (i : ℕ) (h : Held) → slice_get listed_new.scalars i ≡ Some h → (b : Bool) → nat_eq h.local l ≡ b
+          → leaves_free l (Some x) h ≡ true
       leaves i h at false e = rw e refl
       leaves i h at true e = absurd (other i h at (grind (arith, nat_tests, e)))
 
@@ -233,7 +260,8 @@ module _ (x : Name) (names : List Name) (keep : List Le) (k : Counter) (low high
       let two = longer listed_new.tops (top_of Word) in
       omega (arith, one, two)
 
-  pub sum_known : (n : ℕ) (f g : LinearForm) → Known n f → Known n g → Known n (sum_of (pos 0) ((pos 1, f) ∷ (negsuc 0, g) ∷ [])) × Known n (sum_of (negsuc 0) ((pos 1, g) ∷ (negsuc 0, f) ∷ []))
+  pub sum_known : (n : ℕ) (f g : LinearForm) → Known n f → Known n g → Known n (sum_of (pos 0) ((pos 1, f) ∷ (negsuc 0, g) ∷ []))
+      × Known n (sum_of (negsuc 0) ((pos 1, g) ∷ (negsuc 0, f) ∷ []))
   sum_known n f g one two = (
     known_plus n (times (pos 1) f) (plus (times (negsuc 0) g) (constant (pos 0))) (known_times n (pos 1) f one)
         (known_plus n (times (negsuc 0) g) (constant (pos 0)) (known_times n (negsuc 0) g two) (known_constant n (pos 0))),
@@ -242,24 +270,30 @@ module _ (x : Name) (names : List Name) (keep : List Le) (k : Counter) (low high
   )
 
   pub symbol_known : Known (length begun_loop.tops) count_symbol
-  symbol_known = let two = longer listed_new.tops (top_of Word) in known_symbol (length begun_loop.tops) (length listed_new.tops) (omega (arith, two))
+  symbol_known = let two = longer listed_new.tops (top_of Word) in
+      known_symbol (length begun_loop.tops) (length listed_new.tops) (omega (arith, two))
 
-  module _ (good : IsConsistent c) (low_known : Known (length c.tops) low) (high_known : Known (length c.tops) high) (free : is_free c k.count None ≡ true) where
+  module _ (good : IsConsistent c) (low_known : Known (length c.tops) low) (high_known : Known (length c.tops) high)
+      (free : is_free c k.count None ≡ true) where
     listed_good : IsConsistent listed_new
     listed_good = settle_consistent names c c (known_of c good) (λ y in_list gone. gone) (settles_apart names c c good refl)
 
     pub bare_good : IsConsistent bare_start
     bare_good =
-        let symbols : length (listed_new.tops ++ top_of Word ∷ []) ≡ suc (length listed_new.tops) = longer listed_new.tops (top_of Word) in
+        let symbols : length (listed_new.tops ++ top_of Word ∷ [])
+        ≡ suc (length listed_new.tops) = longer listed_new.tops (top_of Word) in
         reserving_consistent (with_count x k.count listed_new) (unlisted_locals names c.scalars ++ k.count ∷ k.last ∷ [])
-        (bound_consistent (with_top (top_of Word) listed_new) (held x k.count count_symbol Word) (known_symbol (length (listed_new.tops ++ top_of Word ∷ [])) (length listed_new.tops) (omega (arith, symbols)))
+        (bound_consistent (with_top (top_of Word) listed_new) (held x k.count count_symbol Word)
+        (known_symbol (length (listed_new.tops ++ top_of Word ∷ [])) (length listed_new.tops) (omega (arith, symbols)))
         (free_new listed_good k.count free) (consistent_top listed_new (top_of Word) listed_good))
 
     pub kept_known : AllKnown (length bare_start.tops) (forms_of (form_in bare_start.scalars) keep)
-    kept_known = forms_known (length bare_start.tops) (form_in bare_start.scalars) (λ y. by y (scalar bare_start y) refl) keep where
-      by : (y : Name) (o : Option Held) → scalar bare_start y ≡ o → Known (length bare_start.tops) (form_or_nothing (scalar bare_start y))
-      by y None at = rw at (known_constant (length bare_start.tops) (pos 0))
-      by y (Some h) at = rw at (let p = scalar_stands bare_start y h at in bare_good.scalars_known p.place h p.at)
+    kept_known = forms_known (length bare_start.tops) (form_in bare_start.scalars) (λ y. by y (scalar bare_start y) refl) keep
+      where
+        by : (y : Name) (o : Option Held) → scalar bare_start y ≡ o
+            → Known (length bare_start.tops) (form_or_nothing (scalar bare_start y))
+        by y None at = rw at (known_constant (length bare_start.tops) (pos 0))
+        by y (Some h) at = rw at (let p = scalar_stands bare_start y h at in bare_good.scalars_known p.place h p.at)
 
     pub low_known_there : Known (length begun_loop.tops) low
     low_known_there = known_more (length c.tops) (length begun_loop.tops) low more_symbols low_known
@@ -270,22 +304,30 @@ module _ (x : Name) (names : List Name) (keep : List Le) (k : Counter) (low high
     pub begun_good : IsConsistent begun_loop
     begun_good =
         let kept = with_facts (forms_of (form_in bare_start.scalars) keep) bare_start in
-        let from_known : Known (length begun_loop.tops) (from_low count_symbol low) = (sum_known (length begun_loop.tops) count_symbol low symbol_known low_known_there).0 in
-        consistent_fact (with_fact (from_low count_symbol low) kept) (below_high count_symbol high) (sum_known (length begun_loop.tops) count_symbol high symbol_known high_known_there).1
-        (consistent_fact kept (from_low count_symbol low) from_known (facts_consistent (forms_of (form_in bare_start.scalars) keep) bare_start kept_known bare_good))
+        let from_known : Known (length begun_loop.tops) (from_low count_symbol low) =
+        (sum_known (length begun_loop.tops) count_symbol low symbol_known low_known_there).0 in
+        consistent_fact (with_fact (from_low count_symbol low) kept) (below_high count_symbol high)
+        (sum_known (length begun_loop.tops) count_symbol high symbol_known high_known_there).1
+        (consistent_fact kept (from_low count_symbol low) from_known
+        (facts_consistent (forms_of (form_in bare_start.scalars) keep) bare_start kept_known bare_good))
 
-    pub begun_scoped : (ps : List Param) (scope : Scope) → scalar_may_take (look_up scope x) ≡ Ok tt → IsScoped ps scope c → IsScoped ps (bind x (One Word) scope) begun_loop
+    pub begun_scoped : (ps : List Param) (scope : Scope) → scalar_may_take (look_up scope x) ≡ Ok tt → IsScoped ps scope c
+        → IsScoped ps (bind x (One Word) scope) begun_loop
     begun_scoped ps scope may scoped =
-        scoped_as ps (bind x (One Word) scope) (with_count x k.count listed_new) begun_loop.facts begun_loop.tops begun_loop.reserved
+        scoped_as ps (bind x (One Word) scope) (with_count x k.count listed_new) begun_loop.facts begun_loop.tops
+        begun_loop.reserved
         (bound_scoped ps scope (with_top (top_of Word) listed_new) (held x k.count count_symbol Word) may
         (fresh_scoped ps scope listed_new (top_of Word) (settles_scoped ps scope names c c listed_good refl scoped)))
 
   -- what the block makes of its start is the beginning of the way back
   pub loop_began : (end_ : Context) → Moves begun_loop end_ → Began c end_
   loop_began end_ m = record {
-    reserved = rw m.reserved (take_on c.reserved listed_new.reserved begun_loop.reserved (front c.reserved listed_new.reserved s.reserved) (take_front listed_new.reserved (unlisted_locals names c.scalars ++ k.count ∷ k.last ∷ [])));
+    reserved = rw m.reserved (take_on c.reserved listed_new.reserved begun_loop.reserved
+        (front c.reserved listed_new.reserved s.reserved)
+        (take_front listed_new.reserved (unlisted_locals names c.scalars ++ k.count ∷ k.last ∷ [])));
     facts = take_on c.facts begun_loop.facts end_.facts facts_front m.facts;
-    tops = take_on c.tops begun_loop.tops end_.tops (take_on c.tops listed_new.tops begun_loop.tops s.tops (take_front listed_new.tops (top_of Word ∷ []))) m.tops;
+    tops = take_on c.tops begun_loop.tops end_.tops
+        (take_on c.tops listed_new.tops begun_loop.tops s.tops (take_front listed_new.tops (top_of Word ∷ []))) m.tops;
     entries = m.entries ∙ s.entries;
   } where
     s : IsSettled names c c listed_new
@@ -301,4 +343,5 @@ module _ (x : Name) (names : List Name) (keep : List Le) (k : Counter) (low high
         let two = one ++ from_low count_symbol low ∷ [] in
         take_on c.facts listed_new.facts begun_loop.facts (front c.facts listed_new.facts s.facts)
         (take_on listed_new.facts one begun_loop.facts (take_front listed_new.facts fs)
-        (take_on one two begun_loop.facts (take_front one (from_low count_symbol low ∷ [])) (take_front two (below_high count_symbol high ∷ []))))
+        (take_on one two begun_loop.facts (take_front one (from_low count_symbol low ∷ []))
+        (take_front two (below_high count_symbol high ∷ []))))

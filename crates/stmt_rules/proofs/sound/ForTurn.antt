@@ -1,5 +1,7 @@
 -- The turns of s-for: from the state in which a turn begins to that in which the next one does.
-use Rattle.std.proofs.Common.{◌≡◌, ◌≢◌, refl, sym, ◌∙◌, ap, subst, arith, ℕ, zero, suc, ◌+◌, ◌-◌, ◌<◌, ◌≤◌, ◌≤ℤ◌, ◌*ℤ◌, neg_ℤ, Bool, true, false, pos, negsuc, List, [], ◌∷◌, ◌++◌, length, map, take, Option, Some, None, Ok, slice_get, slice_set, nat_eq}
+use Rattle.std.proofs.Common.{◌≡◌, ◌≢◌, refl, sym, ◌∙◌, ap, subst, arith, ℕ, zero, suc, ◌+◌, ◌-◌, ◌<◌, ◌≤◌, ◌≤ℤ◌, ◌*ℤ◌, neg_ℤ}
+use Rattle.std.proofs.Common.{Bool, true, false, pos, negsuc, List, [], ◌∷◌, ◌++◌, length, map, take, Option, Some, None, Ok}
+use Rattle.std.proofs.Common.{slice_get, slice_set, nat_eq}
 use Rattle.std.specs.List.{list_all, range_with_len}
 use Rattle.std.specs.FinMap.{get}
 use Rattle.std.proofs.lemmas.Bool.{le-leb}
@@ -55,7 +57,8 @@ use Rattle.stmt_rules.proofs.sound.Begun.{facts_fit, more_reserved}
 use Rattle.stmt_rules.proofs.sound.Counted.{Turned, value_more}
 use Rattle.stmt_rules.proofs.sound.Counting.{more_code, more_price, set_value, set_apart, turn_runs}
 use Rattle.stmt_rules.proofs.sound.ForEnd.{last_forms, ends_like}
-use Rattle.stmt_rules.proofs.sound.ForStart.{count_symbol, bare_start, begun_loop, bare_good, kept_known, low_known_there, high_known_there, sum_known, symbol_known, loop_began}
+use Rattle.stmt_rules.proofs.sound.ForStart.{count_symbol, bare_start, begun_loop, bare_good, kept_known, low_known_there}
+use Rattle.stmt_rules.proofs.sound.ForStart.{high_known_there, sum_known, symbol_known, loop_began}
 use Rattle.stmt_rules.proofs.sound.ForTyped.{carried_typed}
 use Rattle.stmt_rules.proofs.sound.ForValues.{nums, block_symbol, block_nums, end_nums}
 use Rattle.stmt_rules.proofs.sound.Joined.{forms_of}
@@ -64,7 +67,8 @@ use Rattle.stmt_rules.proofs.sound.Let.{no_array}
 
 -- Values of the facts of a turn.
 
-low_holds : (u : ℕ → ℕ) (s : ℕ) (low : LinearForm) (k n : ℕ) → u s ≡ k → value_at u low ≡ pos n → n ≤ k → pos 0 ≤ℤ value_at u (from_low (symbol s) low)
+low_holds : (u : ℕ → ℕ) (s : ℕ) (low : LinearForm) (k n : ℕ) → u s ≡ k → value_at u low ≡ pos n → n ≤ k
+    → pos 0 ≤ℤ value_at u (from_low (symbol s) low)
 low_holds u s low k n at low_is less =
     let one = value_symbol u s ∙ ap pos at in
     let two = value_times u (pos 1) (symbol s) in
@@ -76,7 +80,8 @@ low_holds u s low k n at low_is less =
     let b : (negsuc 0 *ℤ value_at u low) ≡ neg_ℤ (pos n) = ap (λ z. negsuc 0 *ℤ z) low_is ∙ omega (arith, ints) in
     omega (arith, ints, two, three, four, five, six, a, b, less)
 
-high_holds : (u : ℕ → ℕ) (s : ℕ) (high : LinearForm) (k n : ℕ) → u s ≡ k → value_at u high ≡ pos n → k < n → pos 0 ≤ℤ value_at u (below_high (symbol s) high)
+high_holds : (u : ℕ → ℕ) (s : ℕ) (high : LinearForm) (k n : ℕ) → u s ≡ k → value_at u high ≡ pos n → k < n
+    → pos 0 ≤ℤ value_at u (below_high (symbol s) high)
 high_holds u s high k n at high_is less =
     let one = value_symbol u s ∙ ap pos at in
     let two = value_times u (pos 1) high in
@@ -100,14 +105,17 @@ has_right l (n ∷ ns) ms is = by (nat_eq n l) refl (has_right l ns ms is) where
 has_first : (l : ℕ) (ns : List ℕ) → has l (l ∷ ns) ≡ true
 has_first l ns = let self : nat_eq l l ≡ true = grind (arith, nat_tests) in rw self refl
 
-unlisted_has : (names : List Name) (hs : List Held) (i : ℕ) (h : Held) → slice_get hs i ≡ Some h → listed h.name names ≡ false → has h.local (unlisted_locals names hs) ≡ true
+unlisted_has : (names : List Name) (hs : List Held) (i : ℕ) (h : Held) → slice_get hs i ≡ Some h → listed h.name names ≡ false
+    → has h.local (unlisted_locals names hs) ≡ true
 unlisted_has names [] i h at out = absurd (let bad : None ≡ Some h = at in cc)
 unlisted_has names (g ∷ hs) zero h at out =
     let is : g ≡ h = cc in
     let test : listed g.name names ≡ false = ap (λ (z : Held). listed z.name names) is ∙ out in
-    rw test (ap (λ (z : Held). has h.local (z.local ∷ unlisted_locals names hs)) is ∙ has_first h.local (unlisted_locals names hs))
+    rw test (ap (λ (z : Held). has h.local (z.local ∷ unlisted_locals names hs)) is
+    ∙ has_first h.local (unlisted_locals names hs))
 unlisted_has names (g ∷ hs) (suc i) h at out = by (listed g.name names) refl (unlisted_has names hs i h at out) where
-  by : (b : Bool) → listed g.name names ≡ b → has h.local (unlisted_locals names hs) ≡ true → has h.local (unlisted_locals names (g ∷ hs)) ≡ true
+  by : (b : Bool) → listed g.name names ≡ b → has h.local (unlisted_locals names hs) ≡ true
+      → has h.local (unlisted_locals names (g ∷ hs)) ≡ true
   by true e more = rw e more
   by false e more = rw e (has_right h.local (g.local ∷ []) (unlisted_locals names hs) more)
 
@@ -120,7 +128,8 @@ not_array x c gone a p at = by (same x a) refl where
 
 -- What is known of the loop, whatever state there is.
 
-pub record LoopDone (ps : List Param) (scope last : Scope) (x : Name) (names : List Name) (keep : List Le) (body : List Stmt) (k : Counter) (low high : LinearForm) (c : Context) (out : StmtOut) (e : Context) : Type 0 where
+pub record LoopDone (ps : List Param) (scope last : Scope) (x : Name) (names : List Name) (keep : List Le) (body : List Stmt)
+    (k : Counter) (low high : LinearForm) (c : Context) (out : StmtOut) (e : Context) : Type 0 where
   pub good : IsConsistent c
   pub scoped : IsScoped ps scope c
   pub low_known : Known (length c.tops) low
@@ -133,9 +142,11 @@ pub record LoopDone (ps : List Param) (scope last : Scope) (x : Name) (names : L
   pub done : StmtDone ps (bind x (One Word) scope) last (in_turn (map run body)) (begun_loop x names keep k low high c) out e
   pub places : list_all (stands_still c.scalars e.scalars) names ≡ true
   pub arrays : all_named names c.clauses e.clauses ≡ true
-  pub hold : (v : ℕ → ℕ) → Holds v e.facts e.tops → AllHold v (forms_of (last_forms x names (begun_loop x names keep k low high c).scalars e) keep)
+  pub hold : (v : ℕ → ℕ) → Holds v e.facts e.tops
+      → AllHold v (forms_of (last_forms x names (begun_loop x names keep k low high c).scalars e) keep)
 
-module _ (ps : List Param) (scope last : Scope) (x : Name) (names : List Name) (keep : List Le) (body : List Stmt) (k : Counter) (low high : LinearForm) (c : Context) (out : StmtOut) (e : Context)
+module _ (ps : List Param) (scope last : Scope) (x : Name) (names : List Name) (keep : List Le) (body : List Stmt) (k : Counter)
+    (low high : LinearForm) (c : Context) (out : StmtOut) (e : Context)
     (d : LoopDone ps scope last x names keep body k low high c out e) where
   abbrev pub begun : Context
   begun = begun_loop x names keep k low high c
@@ -156,7 +167,8 @@ module _ (ps : List Param) (scope last : Scope) (x : Name) (names : List Name) (
   entries_same = (loop_began x names keep k low high c e d.done.moves).entries
 
   pub like : EndsLike names c e
-  like = ends_like ps x names keep scope last c e d.good d.done.consistent d.scoped d.done.scoped d.kept follows more_tops entries_same d.places d.arrays
+  like = ends_like ps x names keep scope last c e d.good d.done.consistent d.scoped d.done.scoped d.kept follows more_tops
+      entries_same d.places d.arrays
 
   pub array_none : own c x ≡ None
   array_none = no_array ps scope c x d.may d.scoped
@@ -173,20 +185,25 @@ module _ (ps : List Param) (scope last : Scope) (x : Name) (names : List Name) (
 
   last_reserved : has k.last begun.reserved ≡ true
   last_reserved = has_right k.last (settle names c c).reserved (unlisted_locals names c.scalars ++ k.count ∷ k.last ∷ [])
-      (has_right k.last (unlisted_locals names c.scalars) (k.count ∷ k.last ∷ []) (has_right k.last (k.count ∷ []) (k.last ∷ []) (has_first k.last [])))
+      (has_right k.last (unlisted_locals names c.scalars) (k.count ∷ k.last ∷ [])
+      (has_right k.last (k.count ∷ []) (k.last ∷ []) (has_first k.last [])))
 
   scalar_reserved : (y : Name) (h : Held) → scalar c y ≡ Some h → listed y names ≡ false → has h.local begun.reserved ≡ true
   scalar_reserved y h at unlisted =
       let p = scalar_stands c y h at in
       has_right h.local (settle names c c).reserved (unlisted_locals names c.scalars ++ k.count ∷ k.last ∷ [])
-      (more_reserved h.local (unlisted_locals names c.scalars) (k.count ∷ k.last ∷ []) (unlisted_has names c.scalars p.place h p.at (ap (λ z. listed z names) p.named ∙ unlisted)))
+      (more_reserved h.local (unlisted_locals names c.scalars) (k.count ∷ k.last ∷ [])
+      (unlisted_has names c.scalars p.place h p.at (ap (λ z. listed z names) p.named ∙ unlisted)))
 
   kept_reserved : (l : ℕ) → has l c.reserved ≡ true → has l begun.reserved ≡ true
-  kept_reserved l is = more_reserved l (settle names c c).reserved (unlisted_locals names c.scalars ++ k.count ∷ k.last ∷ []) (ap (has l) (settled_self names c).reserved ∙ is)
+  kept_reserved l is = more_reserved l (settle names c c).reserved (unlisted_locals names c.scalars ++ k.count ∷ k.last ∷ [])
+      (ap (has l) (settled_self names c).reserved ∙ is)
 
   -- The states: v has the numbers of the symbols of c in all turns, and the bounds are the numbers n and m.
-  module _ (lengths : Name → ℕ) (w : Weights) (call : Call) (v : ℕ → ℕ) (n m : ℕ) (small : m ≤ 4294967295) (low_is : value_at v low ≡ pos n) (high_is : value_at v high ≡ pos m)
-      (env0 : Env) (mem0 : Bytes) (vars0 : Vars) (room : all_below (length vars0) out.cmds ≡ true) (count_room : k.count < length vars0) where
+  module _ (lengths : Name → ℕ) (w : Weights) (call : Call) (v : ℕ → ℕ) (n m : ℕ) (small : m ≤ 4294967295)
+      (low_is : value_at v low ≡ pos n) (high_is : value_at v high ≡ pos m)
+      (env0 : Env) (mem0 : Bytes) (vars0 : Vars) (room : all_below (length vars0) out.cmds ≡ true)
+      (count_room : k.count < length vars0) where
     abbrev pub sem : ℕ → Env → Env
     sem = loop_turn x names (map run body)
 
@@ -210,12 +227,14 @@ module _ (ps : List Param) (scope last : Scope) (x : Name) (names : List Name) (
       inner = put x (arg.Word i) t.env
 
       bare_fits : FitsOn call (length c.tops) v bare inner mem (local_at vars)
-      bare_fits = block_starts names x k.count k.last i call v c t.env mem (local_at vars) t.begins d.free_count array_none (omega (arith, less, small)) t.at
+      bare_fits = block_starts names x k.count k.last i call v c t.env mem (local_at vars) t.begins d.free_count array_none
+          (omega (arith, less, small)) t.at
 
       symbol_is : (u : ℕ → ℕ) → FitsBy call u bare inner mem (local_at vars) → u (length (settle names c c).tops) ≡ i
       symbol_is u fits = block_symbol call names x k.count k.last i c u t.env mem (local_at vars) fits
 
-      begun_fits : (u : ℕ → ℕ) → Agree (length c.tops) v u → FitsBy call u bare inner mem (local_at vars) → FitsBy call u begun inner mem (local_at vars)
+      begun_fits : (u : ℕ → ℕ) → Agree (length c.tops) v u → FitsBy call u bare inner mem (local_at vars)
+          → FitsBy call u begun inner mem (local_at vars)
       begun_fits u agree fits =
           let fs = forms_of (form_in bare.scalars) keep in
           let kept = with_facts fs bare in
@@ -224,21 +243,33 @@ module _ (ps : List Param) (scope last : Scope) (x : Name) (names : List Name) (
           let s = length (settle names c c).tops in
           let low_there : value_at u low ≡ pos n = known_same (length c.tops) low v u d.low_known agree ∙ low_is in
           let high_there : value_at u high ≡ pos m = known_same (length c.tops) high v u d.high_known agree ∙ high_is in
-          let known_low = (sum_known x names keep k low high c (length begun.tops) (count_symbol x names keep k low high c) low (symbol_known x names keep k low high c) (low_known_there x names keep k low high c d.good d.low_known d.high_known d.free_count)).0 in
-          let known_high = (sum_known x names keep k low high c (length begun.tops) (count_symbol x names keep k low high c) high (symbol_known x names keep k low high c) (high_known_there x names keep k low high c d.good d.low_known d.high_known d.free_count)).1 in
-          let with_kept = facts_fit call u inner mem (local_at vars) fs bare (kept_known x names keep k low high c d.good d.low_known d.high_known d.free_count)
-          (forms_hold v u (nums c x i t.env) (form_in bare.scalars) (block_nums call names x k.count k.last i c u t.env mem (local_at vars) fits v) keep t.facts) fits in
-          fits_fact call u (with_fact lower kept) upper inner mem (local_at vars) known_high (high_holds u s high i m (symbol_is u fits) high_there less)
-          (fits_fact call u kept lower inner mem (local_at vars) known_low (low_holds u s low i n (symbol_is u fits) low_there t.from) with_kept)
+          let known_low = (sum_known x names keep k low high c (length begun.tops) (count_symbol x names keep k low high c) low
+          (symbol_known x names keep k low high c)
+          (low_known_there x names keep k low high c d.good d.low_known d.high_known d.free_count)).0 in
+          let known_high = (sum_known x names keep k low high c (length begun.tops) (count_symbol x names keep k low high c) high
+          (symbol_known x names keep k low high c)
+          (high_known_there x names keep k low high c d.good d.low_known d.high_known d.free_count)).1 in
+          let with_kept = facts_fit call u inner mem (local_at vars) fs bare
+          (kept_known x names keep k low high c d.good d.low_known d.high_known d.free_count)
+          (forms_hold v u (nums c x i t.env) (form_in bare.scalars)
+          (block_nums call names x k.count k.last i c u t.env mem (local_at vars) fits v) keep t.facts) fits in
+          fits_fact call u (with_fact lower kept) upper inner mem (local_at vars) known_high
+          (high_holds u s high i m (symbol_is u fits) high_there less)
+          (fits_fact call u kept lower inner mem (local_at vars) known_low
+          (low_holds u s low i n (symbol_is u fits) low_there t.from) with_kept)
 
       typed_inner : IsTyped lengths (bind x (One Word) scope) inner
-      typed_inner = bound_typed lengths scope t.env x (One Word) (arg.Word i) (le-leb i 4294967295 (omega (arith, less, small))) t.typed
+      typed_inner = bound_typed lengths scope t.env x (One Word) (arg.Word i) (le-leb i 4294967295 (omega (arith, less, small)))
+          t.typed
 
-      block_ran : (u : ℕ → ℕ) → Agree (length c.tops) v u → FitsBy call u bare inner mem (local_at vars) → StmtRan w call (in_turn (map run body)) begun out e u inner mem vars
-      block_ran u agree fits = d.done.runs lengths w call u inner mem vars typed_inner (begun_fits u agree fits) (ap (λ j. all_below j out.cmds) t.count ∙ room)
+      block_ran : (u : ℕ → ℕ) → Agree (length c.tops) v u → FitsBy call u bare inner mem (local_at vars)
+          → StmtRan w call (in_turn (map run body)) begun out e u inner mem vars
+      block_ran u agree fits = d.done.runs lengths w call u inner mem vars typed_inner (begun_fits u agree fits)
+          (ap (λ j. all_below j out.cmds) t.count ∙ room)
 
       -- after the block
-      module _ (u : ℕ → ℕ) (agree : Agree (length c.tops) v u) (fits : FitsBy call u bare inner mem (local_at vars)) (r : StmtRan w call (in_turn (map run body)) begun out e u inner mem vars) where
+      module _ (u : ℕ → ℕ) (agree : Agree (length c.tops) v u) (fits : FitsBy call u bare inner mem (local_at vars))
+          (r : StmtRan w call (in_turn (map run body)) begun out e u inner mem vars) where
         abbrev end_env : Env
         end_env = in_turn (map run body) inner
 
@@ -270,13 +301,15 @@ module _ (ps : List Param) (scope last : Scope) (x : Name) (names : List Name) (
         begins_next : TurnBegins names call v c next_env r.left_mem (local_at next_vars)
         begins_next =
             turn_counts names call v c next_env r.left_mem k.count (local_at r.left) (local_at next_vars)
-            (turn_ends names call v r.others c e t.env end_env mem r.left_mem (local_at vars) (local_at r.left) t.begins r.fits agree_end like leaves)
+            (turn_ends names call v r.others c e t.env end_env mem r.left_mem (local_at vars) (local_at r.left) t.begins r.fits
+            agree_end like leaves)
             d.free_count (λ j apart. set_apart r.left k.count (i + 1) j apart)
 
         facts_next : AllHold v (forms_of (nums c x (i + 1) next_env) keep)
         facts_next =
             forms_hold r.others v (last_forms x names begun.scalars e) (nums c x (i + 1) next_env)
-            (end_nums call names x k.count k.last i c u t.env mem (local_at vars) fits (bare_good x names keep k low high c d.good d.low_known d.high_known d.free_count)
+            (end_nums call names x k.count k.last i c u t.env mem (local_at vars) fits
+            (bare_good x names keep k low high c d.good d.low_known d.high_known d.free_count)
             e r.others end_env r.left_mem (local_at r.left) r.fits r.agree like v) keep (d.hold r.others r.fits.holds)
 
         rest_next : folded sem (range_with_len (i + 1) (m - (i + 1))) next_env ≡ folded sem (range_with_len n (m - n)) env0
@@ -284,25 +317,32 @@ module _ (ps : List Param) (scope last : Scope) (x : Name) (names : List Name) (
             let count : m - i ≡ suc (m - (i + 1)) = omega (arith, less) in
             sym (ap (λ j. folded sem (range_with_len i j) t.env) count) ∙ t.rest
 
-        next_array : (j : ℕ) (p l : Clause) → slice_get c.clauses j ≡ Some p → slice_get e.clauses j ≡ Some l → l.writes ≡ p.writes → value_of next_env l.name ≡ value_of t.env l.name
+        next_array : (j : ℕ) (p l : Clause) → slice_get c.clauses j ≡ Some p → slice_get e.clauses j ≡ Some l
+            → l.writes ≡ p.writes → value_of next_env l.name ≡ value_of t.env l.name
         next_array j p l at_p at_l writes = by (listed l.name names) refl where
           name : p.name ≡ l.name
           name = sym (like.named j p l at_p at_l)
 
-          some : (o : Option Arg) → value_of end_env l.name ≡ o → listed l.name names ≡ true → value_of next_env l.name ≡ value_of end_env l.name
-          some None at in_list = absurd (subst (λ (o : Option Arg). IsArray l.size o) at (r.fits.clauses l.name l (clause_found e d.done.consistent j l at_l)).array)
+          some : (o : Option Arg) → value_of end_env l.name ≡ o → listed l.name names ≡ true
+              → value_of next_env l.name ≡ value_of end_env l.name
+          some None at in_list = absurd (subst (λ (o : Option Arg). IsArray l.size o) at
+              (r.fits.clauses l.name l (clause_found e d.done.consistent j l at_l)).array)
           some (Some a) at in_list = carried names end_env t.env l.name a in_list at ∙ sym at
 
           by : (b : Bool) → listed l.name names ≡ b → value_of next_env l.name ≡ value_of t.env l.name
           by false unlisted = carried_else names end_env t.env l.name unlisted
-          by true in_list = some (value_of end_env l.name) refl in_list ∙ leaves.unwritten j p l at_p at_l writes ∙ ap (value_of t.env) name
+          by true in_list = some (value_of end_env l.name) refl in_list ∙ leaves.unwritten j p l at_p at_l writes
+              ∙ ap (value_of t.env) name
 
         not_count : (l : ℕ) → has l c.reserved ≡ true → l ≢ k.count
         not_count l is same_one =
-            absurd (let bad : true ≡ false = sym is ∙ ap (λ j. has j c.reserved) same_one ∙ free_reserved c k.count None d.free_count in cc)
+            absurd (let bad : true ≡ false = sym is ∙ ap (λ j. has j c.reserved) same_one
+            ∙ free_reserved c k.count None d.free_count in cc)
 
-        turn_run : Runs w (One (turn_of k.count out.cmds)) mem vars r.left_mem next_vars (r.ticks + (expr_weight w (more_code k.count) + w.set + 0))
-        turn_run = turn_runs w k.count i r.ticks out.cmds mem r.left_mem vars r.left r.runs room_there (value_more r.left_mem r.left k.count i count_there (omega (arith, less, small)))
+        turn_run : Runs w (One (turn_of k.count out.cmds)) mem vars r.left_mem next_vars
+            (r.ticks + (expr_weight w (more_code k.count) + w.set + 0))
+        turn_run = turn_runs w k.count i r.ticks out.cmds mem r.left_mem vars r.left r.runs room_there
+            (value_more r.left_mem r.left k.count i count_there (omega (arith, less, small)))
 
         next_turn : TurnAt (i + 1) r.left_mem next_vars
         next_turn = record {
@@ -314,13 +354,16 @@ module _ (ps : List Param) (scope last : Scope) (x : Name) (names : List Name) (
           at = set_value r.left k.count (i + 1) room_there;
           to = set_apart r.left k.count (i + 1) k.last (λ same_one. d.apart (sym same_one)) ∙ r.kept k.last last_reserved ∙ t.to;
           facts = facts_next;
-          count = (shape_of_run w (One (turn_of k.count out.cmds)) mem vars r.left_mem next_vars (r.ticks + (expr_weight w (more_code k.count) + w.set + 0)) turn_run).count ∙ t.count;
+          count = (shape_of_run w (One (turn_of k.count out.cmds)) mem vars r.left_mem next_vars
+              (r.ticks + (expr_weight w (more_code k.count) + w.set + 0)) turn_run).count ∙ t.count;
           kept = λ l is. set_apart r.left k.count (i + 1) l (not_count l is) ∙ r.kept l (kept_reserved l is) ∙ t.kept l is;
-          outside = λ address beyond. r.outside address (λ j p at within. beyond j p (sym (ap (λ ks. slice_get ks j) clauses_same) ∙ at) within) ∙ t.outside address beyond;
+          outside = λ address beyond. r.outside address
+              (λ j p at within. beyond j p (sym (ap (λ ks. slice_get ks j) clauses_same) ∙ at) within) ∙ t.outside address beyond;
           unwritten = λ j p l at_p at_l writes. next_array j p l at_p at_l writes ∙ t.unwritten j p l at_p at_l writes;
         }
 
-        turned : Turned w (turn_of k.count out.cmds) ((cost_all w call out.cmds out.trips).0 + more_price w call k.count) TurnAt i mem vars
+        turned : Turned w (turn_of k.count out.cmds) ((cost_all w call out.cmds out.trips).0 + more_price w call k.count) TurnAt i
+            mem vars
         turned = record {
           left_mem = r.left_mem;
           left = next_vars;
@@ -330,7 +373,8 @@ module _ (ps : List Param) (scope last : Scope) (x : Name) (names : List Name) (
           time = (let spent = r.time in omega (arith, spent));
         }
 
-      pub turn_made : Turned w (turn_of k.count out.cmds) ((cost_all w call out.cmds out.trips).0 + more_price w call k.count) TurnAt i mem vars
+      pub turn_made : Turned w (turn_of k.count out.cmds) ((cost_all w call out.cmds out.trips).0 + more_price w call k.count)
+          TurnAt i mem vars
       turn_made =
           let b = bare_fits in
           turned b.0 b.1 b.2 (block_ran b.0 b.1 b.2)

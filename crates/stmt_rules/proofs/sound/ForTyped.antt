@@ -1,5 +1,6 @@
 -- What typing says of s-for.
-use Rattle.std.proofs.Common.{◌≡◌, refl, sym, ◌∙◌, ap, ℕ, Bool, true, false, ◌&&◌, List, [], ◌∷◌, map, Option, Some, None, Ok, Err, if◌then◌else◌}
+use Rattle.std.proofs.Common.{◌≡◌, refl, sym, ◌∙◌, ap, ℕ, Bool, true, false, ◌&&◌, List, [], ◌∷◌, map, Option, Some, None, Ok}
+use Rattle.std.proofs.Common.{Err, if◌then◌else◌}
 use Rattle.rup_base.specs.Gather.{all_true}
 use Rattle.rup_base.specs.Name.{is_name}
 use Rattle.rup_base.specs.declared.refusal.TypePlace.TheVariants.{Statement}
@@ -37,10 +38,12 @@ pub record ForFormed (low high : Expr) (body : List Stmt) : Type 0 where
   pub body_spelled : all_true (map stmt_spellable body) ≡ true
 
 pub for_parts : (x : Name) (low high : Expr) (xs : List Name) (keep : List Le) (body : List Stmt)
-    → stmt_formed_step (s.For x low high xs keep (map stmt_formed body)) ≡ true → stmt_spellable_step (s.For x low high xs keep (map stmt_spellable body)) ≡ true → ForFormed low high body
+    → stmt_formed_step (s.For x low high xs keep (map stmt_formed body)) ≡ true
+    → stmt_spellable_step (s.For x low high xs keep (map stmt_spellable body)) ≡ true → ForFormed low high body
 for_parts x low high xs keep body formed spelled =
     let blocks = all_true (map stmt_formed body) in
-    let f = and_parts (is_name x) (expr_formed low && (expr_formed high && (names_formed xs && (facts_formed keep && blocks)))) formed in
+    let f = and_parts (is_name x) (expr_formed low && (expr_formed high && (names_formed xs && (facts_formed keep && blocks))))
+    formed in
     let g = and_parts (expr_formed low) (expr_formed high && (names_formed xs && (facts_formed keep && blocks))) f.1 in
     let h = and_parts (expr_formed high) (names_formed xs && (facts_formed keep && blocks)) g.1 in
     let i = and_parts (names_formed xs) (facts_formed keep && blocks) h.1 in
@@ -50,7 +53,8 @@ for_parts x low high xs keep body formed spelled =
     record { low_formed = g.0; low_spelled = q.0; high_formed = h.0; high_spelled = q.1; body_formed = j.1; body_spelled = p.1 }
 
 -- what typing says of it
-pub record ForTyped (x : Name) (low high : Expr) (xs : List Name) (body : List Stmt) (k : ℕ) (scope : Scope) (after : types.State) : Type 0 where
+pub record ForTyped (x : Name) (low high : Expr) (xs : List Name) (body : List Stmt) (k : ℕ) (scope : Scope)
+    (after : types.State) : Type 0 where
   pub unlisted : listed x xs ≡ false
   pub may : scalar_may_take (look_up scope x) ≡ Ok tt
   pub low_typed : type_of low scope ≡ Ok Word
@@ -60,14 +64,17 @@ pub record ForTyped (x : Name) (low high : Expr) (xs : List Name) (body : List S
   pub kept : types.kept xs scope last.1 ≡ Ok tt
   pub is : (last.0, scope) ≡ after
 
-counter_parts : (x : Name) (xs : List Name) (scope : Scope) → types.counter x xs scope ≡ Ok tt → (listed x xs ≡ false) × (scalar_may_take (look_up scope x) ≡ Ok tt)
+counter_parts : (x : Name) (xs : List Name) (scope : Scope) → types.counter x xs scope ≡ Ok tt
+    → (listed x xs ≡ false) × (scalar_may_take (look_up scope x) ≡ Ok tt)
 counter_parts x xs scope is = by (listed x xs) refl where
   by : (b : Bool) → listed x xs ≡ b → (listed x xs ≡ false) × (scalar_may_take (look_up scope x) ≡ Ok tt)
   by true e = absurd (let bad : ◌≡◌ {A = types.Rule} (Err why.Repeated) (Ok tt) = rw e at is in cc)
   by false e = (e, rw e at is)
 
-pub for_typed : (x : Name) (low high : Expr) (xs : List Name) (keep : List Le) (body : List Stmt) (k : ℕ) (scope : Scope) (after : types.State)
-    → types.stmt_step (s.For x low high xs keep (map types.stmt body)) (k, scope) ≡ Ok after → ForTyped x low high xs body k scope after
+pub for_typed : (x : Name) (low high : Expr) (xs : List Name) (keep : List Le) (body : List Stmt) (k : ℕ) (scope : Scope)
+    (after : types.State)
+    → types.stmt_step (s.For x low high xs keep (map types.stmt body)) (k, scope) ≡ Ok after
+    → ForTyped x low high xs body k scope after
 for_typed x low high xs keep body k scope after is =
     let count = first_answered (types.at (Statement k) (types.counter x xs scope)) _ after is in
     let from = first_answered (types.at (Statement k) (wanted Word (type_of low scope))) _ after count.1.1 in
@@ -80,8 +87,10 @@ for_typed x low high xs keep body k scope after is =
     record {
       unlisted = counts.0;
       may = counts.1;
-      low_typed = (wanted_is Word (type_of low scope) from.0 (at_answered (Statement k) (wanted Word (type_of low scope)) from.0 from.1.0)).0;
-      high_typed = (wanted_is Word (type_of high scope) to.0 (at_answered (Statement k) (wanted Word (type_of high scope)) to.0 to.1.0)).0;
+      low_typed = (wanted_is Word (type_of low scope) from.0
+          (at_answered (Statement k) (wanted Word (type_of low scope)) from.0 from.1.0)).0;
+      high_typed = (wanted_is Word (type_of high scope) to.0
+          (at_answered (Statement k) (wanted Word (type_of high scope)) to.0 to.1.0)).0;
       last = block.0;
       body_typed = block.1.0;
       kept = at_answered (Statement k) (types.kept xs scope block.0.1) tt kept.1.0;
@@ -96,7 +105,8 @@ both_types (Some t) (Some u) v is = by (same_type t u) refl is where
   by true e h =
       let here : t ≡ v = answer_is t v (let kept : (if true then Ok t else Err why.Uncarried) ≡ Ok v = rw e at h in kept) in
       (ap Some here, ap Some (sym (type_same t u e) ∙ here))
-  by false e h = absurd (let bad : (if false then Ok t else Err why.Uncarried) ≡ Ok v = rw e at h in let worse : Err why.Uncarried ≡ Ok v = bad in cc)
+  by false e h = absurd (let bad : (if false then Ok t else Err why.Uncarried) ≡ Ok v = rw e at h in let worse : Err why.Uncarried
+      ≡ Ok v = bad in cc)
 both_types None None v is = absurd (cc)
 both_types None (Some u) v is = absurd (cc)
 both_types (Some t) None v is = absurd (cc)
@@ -107,7 +117,8 @@ pub record StaysTyped (scope last : Scope) (y : Name) : Type 0 where
   pub before : look_up scope y ≡ Some type
   pub after : look_up last y ≡ Some type
 
-pub stays_typed : (xs : List Name) (scope last : Scope) → types.kept xs scope last ≡ Ok tt → (y : Name) → listed y xs ≡ true → StaysTyped scope last y
+pub stays_typed : (xs : List Name) (scope last : Scope) → types.kept xs scope last ≡ Ok tt → (y : Name) → listed y xs ≡ true
+    → StaysTyped scope last y
 stays_typed [] scope last kept y in_list = absurd (let bad : false ≡ true = in_list in cc)
 stays_typed (x ∷ xs) scope last kept y in_list = by (same y x) refl (λ later. stays_typed xs scope last first.1.1 y later) where
   first : (t : NameType) × ((agreed (look_up scope x) (look_up last x) ≡ Ok t) × (types.kept xs scope last ≡ Ok tt))
@@ -121,7 +132,8 @@ stays_typed (x ∷ xs) scope last kept y in_list = by (same y x) refl (λ later.
   by false e more = more (rw e at in_list)
 
 -- names keep values of their types from turn to turn
-pub carried_typed : (xs : List Name) (scope last : Scope) (lengths : Name → ℕ) (inner env : Env) → types.kept xs scope last ≡ Ok tt → IsTyped lengths last inner → IsTyped lengths scope env
+pub carried_typed : (xs : List Name) (scope last : Scope) (lengths : Name → ℕ) (inner env : Env)
+    → types.kept xs scope last ≡ Ok tt → IsTyped lengths last inner → IsTyped lengths scope env
     → IsTyped lengths scope (carry xs inner env)
 carried_typed xs scope last lengths inner env kept inner_typed typed y t found = by (listed y xs) refl where
   by : (b : Bool) → listed y xs ≡ b → HasValue lengths (carry xs inner env) y t

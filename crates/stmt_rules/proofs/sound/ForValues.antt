@@ -1,5 +1,6 @@
 -- The kept facts of s-for as numbers, from turn to turn: each name has the number that its value is, and x that of the count.
-use Rattle.std.proofs.Common.{◌≡◌, refl, sym, ◌∙◌, ap, arith, ℕ, ◌+◌, pos, Bool, true, false, List, [], ◌∷◌, length, Option, Some, None, if◌then◌else◌}
+use Rattle.std.proofs.Common.{◌≡◌, refl, sym, ◌∙◌, ap, arith, ℕ, ◌+◌, pos, Bool, true, false, List, [], ◌∷◌, length, Option, Some}
+use Rattle.std.proofs.Common.{None, if◌then◌else◌}
 use Rattle.std.specs.List.{list_any}
 use Rattle.std.proofs.lemmas.Int.{ints}
 use Rattle.rup_base.specs.declared.arg.Arg.TheVariants as arg
@@ -54,10 +55,12 @@ abbrev pub nums : Context → Name → ℕ → Env → Name → LinearForm
 nums c x k env y = constant (pos (num_at c x k env y))
 
 -- a form in a state that fits
-pub fits_num : (call : Call) (u : ℕ → ℕ) (d : Context) (env : Env) (mem : Bytes) (locals : Locals) → FitsBy call u d env mem locals
+pub fits_num : (call : Call) (u : ℕ → ℕ) (d : Context) (env : Env) (mem : Bytes) (locals : Locals)
+    → FitsBy call u d env mem locals
     → (y : Name) → value_at u (form_in d.scalars y) ≡ pos (num_of (scalar d y) (number (value_of env y)))
 fits_num call u d env mem locals fits y = by (scalar d y) refl where
-  by : (o : Option Held) → scalar d y ≡ o → value_at u (form_or_nothing (scalar d y)) ≡ pos (num_of (scalar d y) (number (value_of env y)))
+  by : (o : Option Held) → scalar d y ≡ o → value_at u (form_or_nothing (scalar d y))
+      ≡ pos (num_of (scalar d y) (number (value_of env y)))
   by None at = rw at (value_constant u (pos 0))
   by (Some h) at =
       let f = fits.scalars y h at in
@@ -67,7 +70,8 @@ fits_num call u d env mem locals fits y = by (scalar d y) refl where
 listed_either : (y : Name) (xs : List Name) → list_any (λ z. same z y) xs ≡ listed y xs
 listed_either y [] = refl
 listed_either y (x ∷ xs) = by (same y x) refl (same x y) refl (listed_either y xs) where
-  by : (p : Bool) → same y x ≡ p → (q : Bool) → same x y ≡ q → list_any (λ z. same z y) xs ≡ listed y xs → list_any (λ z. same z y) (x ∷ xs) ≡ listed y (x ∷ xs)
+  by : (p : Bool) → same y x ≡ p → (q : Bool) → same x y ≡ q → list_any (λ z. same z y) xs ≡ listed y xs
+      → list_any (λ z. same z y) (x ∷ xs) ≡ listed y (x ∷ xs)
   by true e true f more = rw (e, f) refl
   by false e false f more = rw (e, f) more
   by true e false f more = absurd (let bad : false ≡ true = sym f ∙ ap (λ z. same x z) (same_is y x e) ∙ same_self x in cc)
@@ -82,21 +86,26 @@ given_else x y f others is = rw is refl
 num_here : (c : Context) (x : Name) (k : ℕ) (env : Env) (y : Name) → same x y ≡ true → num_at c x k env y ≡ k
 num_here c x k env y is = rw is refl
 
-num_else : (c : Context) (x : Name) (k : ℕ) (env : Env) (y : Name) → same x y ≡ false → num_at c x k env y ≡ num_of (scalar c y) (number (value_of env y))
+num_else : (c : Context) (x : Name) (k : ℕ) (env : Env) (y : Name) → same x y ≡ false
+    → num_at c x k env y ≡ num_of (scalar c y) (number (value_of env y))
 num_else c x k env y is = rw is refl
 
 -- Before the block.
 
-pub start_nums : (call : Call) (v w : ℕ → ℕ) (c : Context) (x : Name) (low : LinearForm) (k : ℕ) (env : Env) (mem : Bytes) (locals : Locals) → FitsBy call v c env mem locals → value_at v low ≡ pos k
+pub start_nums : (call : Call) (v w : ℕ → ℕ) (c : Context) (x : Name) (low : LinearForm) (k : ℕ) (env : Env) (mem : Bytes)
+    (locals : Locals) → FitsBy call v c env mem locals → value_at v low ≡ pos k
     → (y : Name) → value_at w (nums c x k env y) ≡ value_at v (given_first x low (form_in c.scalars) y)
-start_nums call v w c x low k env mem locals fits low_is y = value_constant w (pos (num_at c x k env y)) ∙ by (same x y) refl where
-  by : (b : Bool) → same x y ≡ b → pos (num_at c x k env y) ≡ value_at v (given_first x low (form_in c.scalars) y)
-  by true e = ap pos (num_here c x k env y e) ∙ sym low_is ∙ ap (value_at v) (sym (given_here x y low (form_in c.scalars) e))
-  by false e = ap pos (num_else c x k env y e) ∙ sym (fits_num call v c env mem locals fits y) ∙ ap (value_at v) (sym (given_else x y low (form_in c.scalars) e))
+start_nums call v w c x low k env mem locals fits low_is y = value_constant w (pos (num_at c x k env y))
+    ∙ by (same x y) refl where
+      by : (b : Bool) → same x y ≡ b → pos (num_at c x k env y) ≡ value_at v (given_first x low (form_in c.scalars) y)
+      by true e = ap pos (num_here c x k env y e) ∙ sym low_is ∙ ap (value_at v) (sym (given_here x y low (form_in c.scalars) e))
+      by false e = ap pos (num_else c x k env y e) ∙ sym (fits_num call v c env mem locals fits y)
+          ∙ ap (value_at v) (sym (given_else x y low (form_in c.scalars) e))
 
 -- At its start.
 
-module _ (call : Call) (names : List Name) (x : Name) (li lh k : ℕ) (c : Context) (u : ℕ → ℕ) (env : Env) (mem : Bytes) (locals : Locals)
+module _ (call : Call) (names : List Name) (x : Name) (li lh k : ℕ) (c : Context) (u : ℕ → ℕ) (env : Env) (mem : Bytes)
+    (locals : Locals)
     (fits : FitsBy call u (block_start names x li lh c) (put x (arg.Word k) env) mem locals) where
   abbrev start : Context
   start = block_start names x li lh c
@@ -105,10 +114,12 @@ module _ (call : Call) (names : List Name) (x : Name) (li lh k : ℕ) (c : Conte
   listed_new = settle names c c
 
   scalar_here : (y : Name) → same x y ≡ true → scalar start y ≡ Some (held x li (symbol (length listed_new.tops)) Word)
-  scalar_here y is = scalar_bound (with_top (top_of Word) listed_new) (held x li (symbol (length listed_new.tops)) Word) y ∙ rw is refl
+  scalar_here y is = scalar_bound (with_top (top_of Word) listed_new) (held x li (symbol (length listed_new.tops)) Word) y
+      ∙ rw is refl
 
   scalar_else : (y : Name) → same x y ≡ false → scalar start y ≡ scalar listed_new y
-  scalar_else y is = scalar_bound (with_top (top_of Word) listed_new) (held x li (symbol (length listed_new.tops)) Word) y ∙ rw is refl
+  scalar_else y is = scalar_bound (with_top (top_of Word) listed_new) (held x li (symbol (length listed_new.tops)) Word) y
+      ∙ rw is refl
 
   put_here : (y : Name) → same x y ≡ true → number (value_of (put x (arg.Word k) env) y) ≡ k
   put_here y is = ap number (ap (value_of (put x (arg.Word k) env)) (sym (same_is x y is)) ∙ value_here x (arg.Word k) env)
@@ -116,7 +127,8 @@ module _ (call : Call) (names : List Name) (x : Name) (li lh k : ℕ) (c : Conte
   pub block_num : (y : Name) → value_at u (form_in start.scalars y) ≡ pos (num_at c x k env y)
   block_num y = fits_num call u start (put x (arg.Word k) env) mem locals fits y ∙ ap pos (by (same x y) refl) where
     by : (b : Bool) → same x y ≡ b → num_of (scalar start y) (number (value_of (put x (arg.Word k) env) y)) ≡ num_at c x k env y
-    by true e = ap (λ o. num_of o (number (value_of (put x (arg.Word k) env) y))) (scalar_here y e) ∙ put_here y e ∙ sym (num_here c x k env y e)
+    by true e = ap (λ o. num_of o (number (value_of (put x (arg.Word k) env) y))) (scalar_here y e) ∙ put_here y e
+        ∙ sym (num_here c x k env y e)
     by false e =
         ap (λ o. num_of o (number (value_of (put x (arg.Word k) env) y))) (scalar_else y e)
         ∙ ap (λ v. num_of (scalar listed_new y) (number v)) (value_else x y (arg.Word k) env e)
@@ -137,7 +149,8 @@ module _ (call : Call) (names : List Name) (x : Name) (li lh k : ℕ) (c : Conte
 
   -- At the end of the block.
 
-  module _ (good : IsConsistent start) (e : Context) (o : ℕ → ℕ) (end_env : Env) (end_mem : Bytes) (end_locals : Locals) (end_fits : FitsBy call o e end_env end_mem end_locals)
+  module _ (good : IsConsistent start) (e : Context) (o : ℕ → ℕ) (end_env : Env) (end_mem : Bytes) (end_locals : Locals)
+      (end_fits : FitsBy call o e end_env end_mem end_locals)
       (agree : Agree (length start.tops) u o) (like : EndsLike names c e) where
     form_known : (y : Name) → Known (length start.tops) (form_in start.scalars y)
     form_known y = by (scalar start y) refl where
@@ -151,14 +164,19 @@ module _ (call : Call) (names : List Name) (x : Name) (li lh k : ℕ) (c : Conte
     abbrev after : Env
     after = carry names end_env env
 
-    listed_value : (y : Name) → listed y names ≡ true → num_of (scalar e y) (number (value_of end_env y)) ≡ num_of (scalar c y) (number (value_of after y))
+    listed_value : (y : Name) → listed y names ≡ true → num_of (scalar e y) (number (value_of end_env y))
+        ≡ num_of (scalar c y) (number (value_of after y))
     listed_value y in_list = by (scalar e y) refl where
-      by : (p : Option Held) → scalar e y ≡ p → num_of (scalar e y) (number (value_of end_env y)) ≡ num_of (scalar c y) (number (value_of after y))
-      by None at = ap (λ q. num_of q (number (value_of end_env y))) at ∙ sym (num_local (scalar c y) None (number (value_of after y)) (sym (like.places y in_list) ∙ ap local_of at))
+      by : (p : Option Held) → scalar e y ≡ p → num_of (scalar e y) (number (value_of end_env y))
+          ≡ num_of (scalar c y) (number (value_of after y))
+      by None at = ap (λ q. num_of q (number (value_of end_env y))) at
+          ∙ sym (num_local (scalar c y) None (number (value_of after y)) (sym (like.places y in_list) ∙ ap local_of at))
       by (Some h) at =
           let f = end_fits.scalars y h at in
-          let new : value_of after y ≡ Some (arg.Word f.number) = carried names end_env env y (arg.Word f.number) in_list f.value in
-          ap (λ v. num_of (scalar e y) (number v)) (f.value ∙ sym new) ∙ num_local (scalar e y) (scalar c y) (number (value_of after y)) (like.places y in_list)
+          let new : value_of after y ≡ Some (arg.Word f.number) = carried names end_env env y (arg.Word f.number) in_list f.value
+          in
+          ap (λ v. num_of (scalar e y) (number v)) (f.value ∙ sym new)
+          ∙ num_local (scalar e y) (scalar c y) (number (value_of after y)) (like.places y in_list)
 
     end_of_listed : (y : Name) → listed y names ≡ true → end_form names e.scalars start.scalars y ≡ form_in e.scalars y
     end_of_listed y in_list = let test : list_any (λ z. same z y) names ≡ true = listed_either y names ∙ in_list in rw test refl
@@ -181,23 +199,31 @@ module _ (call : Call) (names : List Name) (x : Name) (li lh k : ℕ) (c : Conte
       others : Name → LinearForm
       others = end_form names e.scalars start.scalars
 
-      by : (b : Bool) → same x y ≡ b → (l : Bool) → listed y names ≡ l → value_at o (last_forms x names start.scalars e y) ≡ pos (num_at c x (k + 1) after y)
-      by true e_is l at = ap (value_at o) (given_here x y form others e_is) ∙ one_further y e_is ∙ ap pos (sym (num_here c x (k + 1) after y e_is))
+      by : (b : Bool) → same x y ≡ b → (l : Bool) → listed y names ≡ l → value_at o (last_forms x names start.scalars e y)
+          ≡ pos (num_at c x (k + 1) after y)
+      by true e_is l at = ap (value_at o) (given_here x y form others e_is) ∙ one_further y e_is
+          ∙ ap pos (sym (num_here c x (k + 1) after y e_is))
       by false e_is true in_list =
-          ap (value_at o) (given_else x y form others e_is ∙ end_of_listed y in_list) ∙ fits_num call o e end_env end_mem end_locals end_fits y
+          ap (value_at o) (given_else x y form others e_is ∙ end_of_listed y in_list)
+          ∙ fits_num call o e end_env end_mem end_locals end_fits y
           ∙ ap pos (listed_value y in_list ∙ sym (num_else c x (k + 1) after y e_is))
       by false e_is false out =
           ap (value_at o) (given_else x y form others e_is ∙ end_of_other y out) ∙ still y
-          ∙ ap pos (num_else c x k env y e_is ∙ ap (λ v. num_of (scalar c y) (number v)) (sym (carried_else names end_env env y out)) ∙ sym (num_else c x (k + 1) after y e_is))
+          ∙ ap pos (num_else c x k env y e_is
+          ∙ ap (λ v. num_of (scalar c y) (number v)) (sym (carried_else names end_env env y out))
+          ∙ sym (num_else c x (k + 1) after y e_is))
 
-    pub end_nums : (w : ℕ → ℕ) (y : Name) → value_at w (nums c x (k + 1) after y) ≡ value_at o (last_forms x names start.scalars e y)
+    pub end_nums : (w : ℕ → ℕ) (y : Name)
+        → value_at w (nums c x (k + 1) after y) ≡ value_at o (last_forms x names start.scalars e y)
     end_nums w y = value_constant w (pos (num_at c x (k + 1) after y)) ∙ sym (end_num y)
 
 -- After the loop.
 
-pub left_nums : (call : Call) (w v : ℕ → ℕ) (names : List Name) (c d : Context) (x : Name) (k : ℕ) (env : Env) (mem : Bytes) (locals : Locals) → FitsBy call w (settle names c d) env mem locals → d.scalars ≡ c.scalars
+pub left_nums : (call : Call) (w v : ℕ → ℕ) (names : List Name) (c d : Context) (x : Name) (k : ℕ) (env : Env) (mem : Bytes)
+    (locals : Locals) → FitsBy call w (settle names c d) env mem locals → d.scalars ≡ c.scalars
     → (y : Name) → same x y ≡ false → value_at w (form_in (settle names c d).scalars y) ≡ value_at v (nums c x k env y)
 left_nums call w v names c d x k env mem locals fits stood y apart =
     fits_num call w (settle names c d) env mem locals fits y
-    ∙ ap pos (num_place (scalar (settle names c d) y) (scalar c y) (number (value_of env y)) (settles_places names c d stood y) ∙ sym (num_else c x k env y apart))
+    ∙ ap pos (num_place (scalar (settle names c d) y) (scalar c y) (number (value_of env y)) (settles_places names c d stood y)
+    ∙ sym (num_else c x k env y apart))
     ∙ sym (value_constant v (pos (num_at c x k env y)))

@@ -31,14 +31,16 @@ pub record IfFormed (test : Expr) (names : List Name) (keep : List Le) (first se
 
 pub if_parts : (test : Expr) (names : List Name) (keep : List Le) (first second : List Stmt)
     → stmt_formed_step (s.If test names keep (map stmt_formed first) (map stmt_formed second)) ≡ true
-    → stmt_spellable_step (s.If test names keep (map stmt_spellable first) (map stmt_spellable second)) ≡ true → IfFormed test names keep first second
+    → stmt_spellable_step (s.If test names keep (map stmt_spellable first) (map stmt_spellable second)) ≡ true
+    → IfFormed test names keep first second
 if_parts test names keep first second formed spelled =
     let blocks = all_true (map stmt_formed first) && all_true (map stmt_formed second) in
     let f = and_parts (expr_formed test) (names_formed names && (facts_formed keep && blocks)) formed in
     let g = and_parts (names_formed names) (facts_formed keep && blocks) f.1 in
     let h = and_parts (facts_formed keep) blocks g.1 in
     let both = and_parts (all_true (map stmt_formed first)) (all_true (map stmt_formed second)) h.1 in
-    let p = and_parts (expr_spellable test && all_true (map stmt_spellable first)) (all_true (map stmt_spellable second)) spelled in
+    let p = and_parts (expr_spellable test && all_true (map stmt_spellable first)) (all_true (map stmt_spellable second)) spelled
+    in
     let q = and_parts (expr_spellable test) (all_true (map stmt_spellable first)) p.0 in
     record {
       test_formed = f.0;
@@ -52,10 +54,12 @@ if_parts test names keep first second formed spelled =
 -- the values after it
 abbrev pub branched : Expr → List Name → List Stmt → List Stmt → Turn
 branched test names first second env =
-    if is_true (eval test env) then carry names (in_turn (map run first) env) env else carry names (in_turn (map run second) env) env
+    if is_true (eval test env) then carry names (in_turn (map run first) env) env
+    else carry names (in_turn (map run second) env) env
 
 -- what typing says of it
-pub record IfTyped (test : Expr) (names : List Name) (keep : List Le) (first second : List Stmt) (k : ℕ) (scope : Scope) (after : types.State) : Type 0 where
+pub record IfTyped (test : Expr) (names : List Name) (keep : List Le) (first second : List Stmt) (k : ℕ) (scope : Scope)
+    (after : types.State) : Type 0 where
   pub flag : type_of test scope ≡ Ok Flag
   pub distinct : types.distinct [] names ≡ Ok tt
   pub one : types.State
@@ -67,8 +71,10 @@ pub record IfTyped (test : Expr) (names : List Name) (keep : List Le) (first sec
   pub facts : types.facts keep joined ≡ Ok tt
   pub is : (two.0, joined) ≡ after
 
-pub if_typed : (test : Expr) (names : List Name) (keep : List Le) (first second : List Stmt) (k : ℕ) (scope : Scope) (after : types.State)
-    → types.stmt_step (s.If test names keep (map types.stmt first) (map types.stmt second)) (k, scope) ≡ Ok after → IfTyped test names keep first second k scope after
+pub if_typed : (test : Expr) (names : List Name) (keep : List Le) (first second : List Stmt) (k : ℕ) (scope : Scope)
+    (after : types.State)
+    → types.stmt_step (s.If test names keep (map types.stmt first) (map types.stmt second)) (k, scope) ≡ Ok after
+    → IfTyped test names keep first second k scope after
 if_typed test names keep first second k scope after is =
     let found = first_answered (types.at (Statement k) (wanted Flag (type_of test scope))) _ after is in
     let once = first_answered (types.at (Statement k) (types.distinct [] names)) _ after found.1.1 in
@@ -77,7 +83,8 @@ if_typed test names keep first second k scope after is =
     let joined = first_answered (types.at (Statement k) (types.joined names one.0.1 two.0.1 scope)) _ after two.1.1 in
     let facts = first_answered (types.at (Statement k) (types.facts keep joined.0)) _ after joined.1.1 in
     record {
-      flag = (wanted_is Flag (type_of test scope) found.0 (at_answered (Statement k) (wanted Flag (type_of test scope)) found.0 found.1.0)).0;
+      flag = (wanted_is Flag (type_of test scope) found.0
+          (at_answered (Statement k) (wanted Flag (type_of test scope)) found.0 found.1.0)).0;
       distinct = at_answered (Statement k) (types.distinct [] names) tt once.1.0;
       one = one.0;
       two = two.0;

@@ -25,7 +25,8 @@ module _ (u w : ℕ → ℕ) (f g : Name → LinearForm) (alike : (x : Name) →
   bare y = map-Lin Alike Lin (λ p. p.0) y
 
   abbrev StepAlike : Lin-F Lin → Type 0
-  StepAlike y = value_at w (side_step g (map-Lin Lin LinearForm (side g) y)) ≡ value_at u (side_step f (map-Lin Lin LinearForm (side f) y))
+  StepAlike y = value_at w (side_step g (map-Lin Lin LinearForm (side g) y))
+      ≡ value_at u (side_step f (map-Lin Lin LinearForm (side f) y))
 
   step_alike : (y : Lin-F Alike) → StepAlike (bare y)
   step_alike (l.Const n) = refl
@@ -41,14 +42,16 @@ module _ (u w : ℕ → ℕ) (f g : Name → LinearForm) (alike : (x : Name) →
 
   difference_alike : (r : Le) → value_at w (difference g r) ≡ value_at u (difference f r)
   difference_alike r =
-      value_minus w (side g r.high) (side g r.low) ∙ rw (side_alike r.high, side_alike r.low) (sym (value_minus u (side f r.high) (side f r.low)))
+      value_minus w (side g r.high) (side g r.low)
+      ∙ rw (side_alike r.high, side_alike r.low) (sym (value_minus u (side f r.high) (side f r.low)))
 
   -- the facts hold with the ones where they do with the others
   pub forms_hold : (keep : List Le) → AllHold u (forms_of f keep) → AllHold w (forms_of g keep)
   forms_hold [] hold i h at = absurd (let bad : None ≡ Some h = at in cc)
   forms_hold (r ∷ rs) hold zero h at =
       let is : difference g r ≡ h = cc in
-      subst (λ (z : LinearForm). pos 0 ≤ℤ value_at w z) is (subst (λ (z : ℤ). pos 0 ≤ℤ z) (sym (difference_alike r)) (hold zero (difference f r) refl))
+      subst (λ (z : LinearForm). pos 0 ≤ℤ value_at w z) is
+      (subst (λ (z : ℤ). pos 0 ≤ℤ z) (sym (difference_alike r)) (hold zero (difference f r) refl))
   forms_hold (r ∷ rs) hold (suc i) h at = forms_hold rs (λ j k there. hold (suc j) k there) i h at
 
 -- Symbols.
@@ -80,5 +83,7 @@ module _ (n : ℕ) (f : Name → LinearForm) (known : (x : Name) → Known n (f 
   forms_known [] i h at = absurd (let bad : None ≡ Some h = at in cc)
   forms_known (r ∷ rs) zero h at =
       let is : difference f r ≡ h = cc in
-      subst (λ (z : LinearForm). Known n z) is (known_plus n (side f r.high) (times (negsuc 0) (side f r.low)) (side_known r.high) (known_times n (negsuc 0) (side f r.low) (side_known r.low)))
+      subst (λ (z : LinearForm). Known n z) is
+      (known_plus n (side f r.high) (times (negsuc 0) (side f r.low)) (side_known r.high)
+      (known_times n (negsuc 0) (side f r.low) (side_known r.low)))
   forms_known (r ∷ rs) (suc i) h at = forms_known rs i h at

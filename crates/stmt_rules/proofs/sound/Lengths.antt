@@ -1,5 +1,7 @@
 -- The code of an array's length, and the element of a count, in a state that fits.
-use Rattle.std.proofs.Common.{◌≡◌, refl, sym, ◌∙◌, ap, subst, arith, ℕ, suc, ◌+◌, ◌*◌, ◌<◌, ◌≤◌, ◌^◌, ◌%◌, inl, inr, Bool, true, false, ◌&&◌, nat_abs, nat_eq, List, [], ◌∷◌, length, Option, Some, None, slice_get, ℤ, pos, negsuc, ◌≤ℤ◌}
+use Rattle.std.proofs.Common.{◌≡◌, refl, sym, ◌∙◌, ap, subst, arith, ℕ, suc, ◌+◌, ◌*◌, ◌<◌, ◌≤◌, ◌^◌, ◌%◌, inl, inr, Bool, true}
+use Rattle.std.proofs.Common.{false, ◌&&◌, nat_abs, nat_eq, List, [], ◌∷◌, length, Option, Some, None, slice_get, ℤ, pos, negsuc}
+use Rattle.std.proofs.Common.{◌≤ℤ◌}
 use Rattle.std.specs.Prelude.{option_map}
 use Rattle.std.specs.Int.Signed.{le_z}
 use Rattle.std.proofs.Math.Nat.{mul-le-mul_left}
@@ -69,10 +71,12 @@ number_in_value n f is v = by (number_of f) refl where
   by (Some k) e = number_value f k e v ∙ in_range_is 0 most n k (rw e at is)
 
 -- the code of the length has the number of elements
-pub length_value : (call : Call) (v : ℕ → ℕ) (k : Clause) (found : Option Arg) (mem : Bytes) (vars : Vars) (e : BExpr) → ClauseFits call v k found mem (local_at vars) → code k ≡ Some e
+pub length_value : (call : Call) (v : ℕ → ℕ) (k : Clause) (found : Option Arg) (mem : Bytes) (vars : Vars) (e : BExpr)
+    → ClauseFits call v k found mem (local_at vars) → code k ≡ Some e
     → value e mem vars ≡ Some (length (elements found))
 length_value call v k found mem vars e f is = by k.length_local refl where
-  literal : (t : Option ℕ) → number_in 0 most k.length ≡ t → option_map b.Lit t ≡ Some e → value e mem vars ≡ Some (length (elements found))
+  literal : (t : Option ℕ) → number_in 0 most k.length ≡ t → option_map b.Lit t ≡ Some e
+      → value e mem vars ≡ Some (length (elements found))
   literal None n made = absurd (let bad : None ≡ Some e = made in cc)
   literal (Some m) n made =
       let here : Some (b.Lit m) ≡ Some e = made in
@@ -96,7 +100,8 @@ pub record StandsAt (call : Call) (k : Clause) (i : ℕ) : Type 0 where
   pub aligned : (call.pointers k.param + k.size * i) % k.size ≡ 0
   pub small : call.pointers k.param + k.size * i < 2 ^ 32
 
-pub element_stands : (call : Call) (v : ℕ → ℕ) (k : Clause) (found : Option Arg) (mem : Bytes) (vars : Vars) (i : ℕ) → ClauseFits call v k found mem (local_at vars) → i < length (elements found) → StandsAt call k i
+pub element_stands : (call : Call) (v : ℕ → ℕ) (k : Clause) (found : Option Arg) (mem : Bytes) (vars : Vars) (i : ℕ)
+    → ClauseFits call v k found mem (local_at vars) → i < length (elements found) → StandsAt call k i
 element_stands call v k found mem vars i f less = by (size_is k.size found f.array) where
   long : length (array_bytes found) ≡ k.size * length (elements found)
   long = bytes_length k.size found f.array
@@ -114,20 +119,32 @@ element_stands call v k found mem vars i f less = by (size_is k.size found f.arr
   by (inr four) =
       let less_one : k.size * suc i ≡ k.size * i + k.size = omega arith in
       let aligned : call.pointers k.param % 4 ≡ 0 = subst (λ (s : ℕ). call.pointers k.param % s ≡ 0) four f.aligned in
-      record { sized = inr four; aligned = rw four (omega (arith, aligned)); small = omega (arith, long, product, ends, less_one, four) }
+      record {
+        sized = inr four;
+        aligned = rw four (omega (arith, aligned));
+        small = omega (arith, long, product, ends, less_one, four);
+      }
 
 -- the element of the count is loaded
-pub element_value : (call : Call) (v : ℕ → ℕ) (k : Clause) (found : Option Arg) (mem : Bytes) (vars : Vars) (li i n : ℕ) → ClauseFits call v k found mem (local_at vars) → local_at vars li ≡ Some i
-    → slice_get (elements found) i ≡ Some n → (value (place_of k li) mem vars ≡ Some (call.pointers k.param + k.size * i)) × ((value (b.Load (size_of k.size) (place_of k li)) mem vars ≡ Some n) × (n ≤ element_top k.size))
+pub element_value : (call : Call) (v : ℕ → ℕ) (k : Clause) (found : Option Arg) (mem : Bytes) (vars : Vars) (li i n : ℕ)
+    → ClauseFits call v k found mem (local_at vars) → local_at vars li ≡ Some i
+    → slice_get (elements found) i ≡ Some n → (value (place_of k li) mem vars ≡ Some (call.pointers k.param + k.size * i))
+    × ((value (b.Load (size_of k.size) (place_of k li)) mem vars ≡ Some n) × (n ≤ element_top k.size))
 element_value call v k found mem vars li i n f count at =
     let less = slice_get_within (elements found) i n at in
     let s = element_stands call v k found mem vars i f less in
     let start = call.pointers k.param in
-    let place : value (place_of k li) mem vars ≡ Some (start + k.size * i) = value_address mem vars k start i (b.Var li) s.sized f.pointer s.small (value_var mem vars li ∙ count) in
+    let place : value (place_of k li) mem vars
+    ≡ Some (start + k.size * i) = value_address mem vars k start i (b.Var li) s.sized f.pointer s.small
+    (value_var mem vars li ∙ count) in
     let bytes = element_read k.size found mem start i n f.array f.stands at in
-    let load : loaded (size_of k.size) mem (start + k.size * i) ≡ Some n = loaded_element k.size (start + k.size * i) n mem s.sized s.aligned bytes.1 bytes.0 in
-    let whole : value (b.Load (size_of k.size) (place_of k li)) mem vars ≡ then_some (value (place_of k li) mem vars) (loaded (size_of k.size) mem) =
-    ap (λ (g : Value). g mem vars) (ap value (sym (b.rolls-Load (size_of k.size) (place_of k li))) ∙ fold-roll-BExpr Value value_step (o.Load (size_of k.size) (place_of k li))) in
+    let load : loaded (size_of k.size) mem (start + k.size * i)
+    ≡ Some n = loaded_element k.size (start + k.size * i) n mem s.sized s.aligned bytes.1 bytes.0 in
+    let whole : value (b.Load (size_of k.size) (place_of k li)) mem vars
+    ≡ then_some (value (place_of k li) mem vars) (loaded (size_of k.size) mem) =
+    ap (λ (g : Value). g mem vars)
+    (ap value (sym (b.rolls-Load (size_of k.size) (place_of k li)))
+    ∙ fold-roll-BExpr Value value_step (o.Load (size_of k.size) (place_of k li))) in
     (place, (whole ∙ ap (λ z. then_some z (loaded (size_of k.size) mem)) place ∙ load, bytes.1))
 
 -- Types of elements.

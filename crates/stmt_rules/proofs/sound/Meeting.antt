@@ -1,6 +1,7 @@
 -- Two blocks that began in one context and whose ends meet: what the conditions at the ends say of arrays and scalars, and of the
 -- context that goes on from both, whether or not a block runs.
-use Rattle.std.proofs.Common.{◌≡◌, refl, sym, ◌∙◌, ap, subst, arith, ℕ, ◌≤◌, zero, suc, Bool, true, false, ◌&&◌, ◌||◌, nat_eq, List, [], ◌∷◌, ◌++◌, length, pos, Option, Some, None, Ok, slice_get}
+use Rattle.std.proofs.Common.{◌≡◌, refl, sym, ◌∙◌, ap, subst, arith, ℕ, ◌≤◌, zero, suc, Bool, true, false, ◌&&◌, ◌||◌, nat_eq}
+use Rattle.std.proofs.Common.{List, [], ◌∷◌, ◌++◌, length, pos, Option, Some, None, Ok, slice_get}
 use Rattle.std.specs.List.{list_all}
 use Rattle.std.specs.Prelude.{is_some}
 use Rattle.std.proofs.lemmas.Bool.{eqb-true}
@@ -29,7 +30,8 @@ use Rattle.sym_heap.proofs.laws.Ending.{IsOver, EndsFollow, IsEnded, ended, ends
 use Rattle.sym_heap.proofs.laws.Extending.{known_constant}
 use Rattle.sym_heap.proofs.laws.Lookups.{scalar_stands, clause_stands, scalar_found, clause_found}
 use Rattle.sym_heap.proofs.laws.Moves.{params_once}
-use Rattle.sym_heap.proofs.laws.Settling.{place_in, NoneLost, TargetsApart, IsSettled, beside, settle_static, settle_consistent, targets_apart}
+use Rattle.sym_heap.proofs.laws.Settling.{place_in, NoneLost, TargetsApart, IsSettled, beside, settle_static, settle_consistent}
+use Rattle.sym_heap.proofs.laws.Settling.{targets_apart}
 use Rattle.sym_heap.proofs.laws.States.{MoreTops}
 use Rattle.expr_rules.specs.Sound.{AllKnown}
 use Rattle.stmt_rules.specs.Nesting.{is_as_before, is_kept, unlisted_kept, same_local, stands_alike, same_param, is_array_alike}
@@ -44,17 +46,21 @@ or_else : (p q : Bool) → (p || q) ≡ true → p ≡ false → q ≡ true
 or_else true q is off = absurd (let bad : true ≡ false = off in cc)
 or_else false q is off = is
 
-pub each_at : {A : Type 0} (test : A → Bool) (xs : List A) (i : ℕ) (x : A) → list_all test xs ≡ true → slice_get xs i ≡ Some x → test x ≡ true
+pub each_at : {A : Type 0} (test : A → Bool) (xs : List A) (i : ℕ) (x : A) → list_all test xs ≡ true → slice_get xs i ≡ Some x
+    → test x ≡ true
 each_at test [] i x all at = absurd (let bad : None ≡ Some x = at in cc)
-each_at {A} test (y ∷ ys) zero x all at = let is : y ≡ x = cc in subst (λ (z : A). test z ≡ true) is (and_parts (test y) (list_all test ys) all).0
+each_at {A} test (y ∷ ys) zero x all at = let is : y ≡ x = cc in
+    subst (λ (z : A). test z ≡ true) is (and_parts (test y) (list_all test ys) all).0
 each_at test (y ∷ ys) (suc i) x all at = each_at test ys i x (and_parts (test y) (list_all test ys) all).1 at
 
-pub each_listed : (test : Name → Bool) (names : List Name) (x : Name) → list_all test names ≡ true → listed x names ≡ true → test x ≡ true
+pub each_listed : (test : Name → Bool) (names : List Name) (x : Name) → list_all test names ≡ true → listed x names ≡ true
+    → test x ≡ true
 each_listed test [] x all in_list = absurd (let bad : false ≡ true = in_list in cc)
-each_listed test (y ∷ ys) x all in_list = by (same x y) refl (λ more. each_listed test ys x (and_parts (test y) (list_all test ys) all).1 more) where
-  by : (b : Bool) → same x y ≡ b → (listed x ys ≡ true → test x ≡ true) → test x ≡ true
-  by true e more = ap test (same_is x y e) ∙ (and_parts (test y) (list_all test ys) all).0
-  by false e more = more (or_else (same x y) (listed x ys) in_list e)
+each_listed test (y ∷ ys) x all in_list =
+    by (same x y) refl (λ more. each_listed test ys x (and_parts (test y) (list_all test ys) all).1 more) where
+      by : (b : Bool) → same x y ≡ b → (listed x ys ≡ true → test x ≡ true) → test x ≡ true
+      by true e more = ap test (same_is x y e) ∙ (and_parts (test y) (list_all test ys) all).0
+      by false e more = more (or_else (same x y) (listed x ys) in_list e)
 
 pub has_right : (l : ℕ) (ns ms : List ℕ) → has l ms ≡ true → has l (ns ++ ms) ≡ true
 has_right l [] ms is = is
@@ -64,7 +70,8 @@ has_right l (n ∷ ns) ms is = rw (has_right l ns ms is) (by (nat_eq n l)) where
   by false = refl
 
 -- the local of a scalar that is not listed is among those
-pub unlisted_has : (names : List Name) (hs : List Held) (i : ℕ) (h : Held) → slice_get hs i ≡ Some h → listed h.name names ≡ false → has h.local (unlisted_locals names hs) ≡ true
+pub unlisted_has : (names : List Name) (hs : List Held) (i : ℕ) (h : Held) → slice_get hs i ≡ Some h → listed h.name names ≡ false
+    → has h.local (unlisted_locals names hs) ≡ true
 unlisted_has names [] i h at out = absurd (let bad : None ≡ Some h = at in cc)
 unlisted_has names (k ∷ ks) zero h at out =
     let is : h ≡ k = cc in
@@ -78,7 +85,8 @@ unlisted_has names (k ∷ ks) zero h at out =
     first : nat_eq h.local k.local ≡ true → has h.local (k.local ∷ unlisted_locals names ks) ≡ true
     first e = rw (eqb-true h.local k.local e, nat_self k.local) refl
 unlisted_has names (k ∷ ks) (suc i) h at out = by (listed k.name names) refl (unlisted_has names ks i h at out) where
-  by : (b : Bool) → listed k.name names ≡ b → has h.local (unlisted_locals names ks) ≡ true → has h.local (unlisted_locals names (k ∷ ks)) ≡ true
+  by : (b : Bool) → listed k.name names ≡ b → has h.local (unlisted_locals names ks) ≡ true
+      → has h.local (unlisted_locals names (k ∷ ks)) ≡ true
   by true e more = rw e more
   by false e more = rw e (has_right h.local (k.local ∷ []) (unlisted_locals names ks) more)
 
@@ -88,7 +96,8 @@ unlisted_has names (k ∷ ks) (suc i) h at out = by (listed k.name names) refl (
 abbrev pub over : List Name → Context → Context → Context → Context
 over names mid one two = with_ends names (standing one) (standing two) (back_to mid two)
 
-pub record Meeting (ps : List Param) (scope one_scope two_scope after : Scope) (names : List Name) (mid one two : Context) : Type 0 where
+pub record Meeting (ps : List Param) (scope one_scope two_scope after : Scope) (names : List Name) (mid one two : Context) : Type
+    0 where
   pub good : IsConsistent mid
   pub scoped : IsScoped ps scope mid
   pub one_good : IsConsistent one
@@ -102,7 +111,8 @@ pub record Meeting (ps : List Param) (scope one_scope two_scope after : Scope) (
   pub places : list_all (stands_alike (standing one) (standing two)) names ≡ true
   pub arrays : list_all (is_array_alike (standing one) (standing two)) names ≡ true
   -- what stands at the first end in a reserved local was there before
-  pub came : (x : Name) (h : Held) → scalar one x ≡ Some h → has h.local (mid.reserved ++ unlisted_locals names mid.scalars) ≡ true → local_of (scalar mid x) ≡ Some h.local
+  pub came : (x : Name) (h : Held) → scalar one x ≡ Some h → has h.local (mid.reserved ++ unlisted_locals names mid.scalars)
+      ≡ true → local_of (scalar mid x) ≡ Some h.local
   pub tops : MoreTops mid two.tops
   pub entries : two.entries ≡ mid.entries
   -- typing
@@ -128,7 +138,8 @@ pub record IsSameScalar (h l : Held) : Type 0 where
   pub local : l.local ≡ h.local
   pub kind : l.kind ≡ h.kind
 
-module _ (ps : List Param) (scope one_scope two_scope after : Scope) (names : List Name) (mid one two : Context) (m : Meeting ps scope one_scope two_scope after names mid one two) where
+module _ (ps : List Param) (scope one_scope two_scope after : Scope) (names : List Name) (mid one two : Context)
+    (m : Meeting ps scope one_scope two_scope after names mid one two) where
   abbrev joint : Context
   joint = over names mid one two
 
@@ -140,17 +151,21 @@ module _ (ps : List Param) (scope one_scope two_scope after : Scope) (names : Li
 
   -- Names of scalars and of arrays.
 
-  scalar_type : (s : Scope) (c : Context) → IsScoped ps s c → (x : Name) (h : Held) → scalar c x ≡ Some h → look_up s x ≡ Some (One h.kind)
+  scalar_type : (s : Scope) (c : Context) → IsScoped ps s c → (x : Name) (h : Held) → scalar c x ≡ Some h
+      → look_up s x ≡ Some (One h.kind)
   scalar_type s c scoped x h at = let p = scalar_stands c x h at in ap (look_up s) (sym p.named) ∙ scoped.scalars p.place h p.at
 
-  clause_type : (s : Scope) (c : Context) → IsScoped ps s c → (i : ℕ) (k : Clause) → slice_get c.clauses i ≡ Some k → (x : Name) → k.name ≡ x → (h : Held) → scalar c x ≡ Some h → ⊥
+  clause_type : (s : Scope) (c : Context) → IsScoped ps s c → (i : ℕ) (k : Clause) → slice_get c.clauses i ≡ Some k → (x : Name)
+      → k.name ≡ x → (h : Held) → scalar c x ≡ Some h → ⊥
   clause_type s c scoped i k at x named h at_x =
       let a = scoped.clauses i k at in
-      let both : Some (Many a.element a.len) ≡ Some (One h.kind) = sym a.type ∙ ap (look_up s) named ∙ scalar_type s c scoped x h at_x in
+      let both : Some (Many a.element a.len)
+      ≡ Some (One h.kind) = sym a.type ∙ ap (look_up s) named ∙ scalar_type s c scoped x h at_x in
       absurd (let bad : Many a.element a.len ≡ One h.kind = cc in cc)
 
   -- the clause of a name is the one of its place
-  by_param : (c : Context) → IsConsistent c → (i : ℕ) (l : Clause) → slice_get c.clauses i ≡ Some l → (x : Name) (k : Clause) → own c x ≡ Some k → k.param ≡ l.param → l.name ≡ x
+  by_param : (c : Context) → IsConsistent c → (i : ℕ) (l : Clause) → slice_get c.clauses i ≡ Some l → (x : Name) (k : Clause)
+      → own c x ≡ Some k → k.param ≡ l.param → l.name ≡ x
   by_param c good i l at x k is param =
       let p = clause_stands c x k is in
       let once = params_once c good in
@@ -160,7 +175,9 @@ module _ (ps : List Param) (scope one_scope two_scope after : Scope) (names : Li
 
   params_same : (o p : Option Clause) (l k : Clause) → o ≡ Some l → p ≡ Some k → same_param o p ≡ true → l.param ≡ k.param
   params_same o p l k at_o at_p is =
-      let test : same_param (Some l) (Some k) ≡ true = subst (λ (z : Option Clause). same_param z (Some k) ≡ true) at_o (subst (λ (z : Option Clause). same_param o z ≡ true) at_p is) in
+      let test : same_param (Some l) (Some k)
+      ≡ true = subst (λ (z : Option Clause). same_param z (Some k) ≡ true) at_o
+      (subst (λ (z : Option Clause). same_param o z ≡ true) at_p is) in
       eqb-true l.param k.param test
 
   -- a name that is an array's at one end and listed is of one parameter at both
@@ -174,10 +191,12 @@ module _ (ps : List Param) (scope one_scope two_scope after : Scope) (names : Li
   both_own : (x : Name) → listed x names ≡ true → scalar one x ≡ None → BothOwn x
   both_own x in_list none = by (own one x) refl (own two x) refl where
     alike : same_param (own one x) (own two x) ≡ true
-    alike = or_else (is_some (scalar one x)) (same_param (own one x) (own two x)) (each_listed (is_array_alike (standing one) (standing two)) names x m.arrays in_list) (ap is_some none)
+    alike = or_else (is_some (scalar one x)) (same_param (own one x) (own two x))
+        (each_listed (is_array_alike (standing one) (standing two)) names x m.arrays in_list) (ap is_some none)
 
     by : (o : Option Clause) → own one x ≡ o → (p : Option Clause) → own two x ≡ p → BothOwn x
-    by (Some l) e (Some k) f = record { at_one = l; at_two = k; owns_one = e; owns_two = f; param = params_same (own one x) (own two x) l k e f alike }
+    by (Some l) e (Some k) f = record
+        { at_one = l; at_two = k; owns_one = e; owns_two = f; param = params_same (own one x) (own two x) l k e f alike }
     by None e p f = absurd (let bad : false ≡ true = rw e at alike in cc)
     by (Some l) e None f = absurd (let bad : false ≡ true = rw (e, f) at alike in cc)
 
@@ -192,25 +211,33 @@ module _ (ps : List Param) (scope one_scope two_scope after : Scope) (names : Li
     pub writes : l.writes ≡ k.writes
 
   -- an array whose name is not listed at an end is as before
-  kept_as : (e : Context) → unlisted_kept names mid.clauses e.clauses ≡ true → (i j : ℕ) (k l : Clause) → slice_get mid.clauses j ≡ Some k → slice_get e.clauses i ≡ Some l → l.param ≡ k.param
+  kept_as : (e : Context) → unlisted_kept names mid.clauses e.clauses ≡ true → (i j : ℕ) (k l : Clause)
+      → slice_get mid.clauses j ≡ Some k → slice_get e.clauses i ≡ Some l → l.param ≡ k.param
       → listed l.name names ≡ false → Kept k l
   kept_as e kept i j k l at_k at_l param out =
-      let whole : (listed l.name names || is_as_before (of_param l.param mid.clauses) l) ≡ true = each_at (is_kept names mid.clauses) e.clauses i l kept at_l in
-      let before : is_as_before (of_param l.param mid.clauses) l ≡ true = or_else (listed l.name names) (is_as_before (of_param l.param mid.clauses) l) whole out in
-      let found : of_param l.param mid.clauses ≡ Some k = ap (λ n. of_param n mid.clauses) param ∙ params_once mid m.good j k at_k in
-      let test : (same k.name l.name && nat_eq k.writes l.writes) ≡ true = subst (λ (o : Option Clause). is_as_before o l ≡ true) found before in
+      let whole : (listed l.name names || is_as_before (of_param l.param mid.clauses) l)
+      ≡ true = each_at (is_kept names mid.clauses) e.clauses i l kept at_l in
+      let before : is_as_before (of_param l.param mid.clauses) l
+      ≡ true = or_else (listed l.name names) (is_as_before (of_param l.param mid.clauses) l) whole out in
+      let found : of_param l.param mid.clauses ≡ Some k = ap (λ n. of_param n mid.clauses) param ∙ params_once mid m.good j k at_k
+      in
+      let test : (same k.name l.name && nat_eq k.writes l.writes)
+      ≡ true = subst (λ (o : Option Clause). is_as_before o l ≡ true) found before in
       let both = and_parts (same k.name l.name) (nat_eq k.writes l.writes) test in
       record { name = same_is k.name l.name both.0; writes = sym (eqb-true k.writes l.writes both.1) }
 
-  module _ (i : ℕ) (k l n : Clause) (at_k : slice_get mid.clauses i ≡ Some k) (at_l : slice_get one.clauses i ≡ Some l) (at_n : slice_get two.clauses i ≡ Some n)
+  module _ (i : ℕ) (k l n : Clause) (at_k : slice_get mid.clauses i ≡ Some k) (at_l : slice_get one.clauses i ≡ Some l)
+      (at_n : slice_get two.clauses i ≡ Some n)
       (param_l : l.param ≡ k.param) (param_n : n.param ≡ k.param) where
     -- the first end's name is listed
     first_listed : listed l.name names ≡ true → l.name ≡ n.name
     first_listed in_list =
-        let b = both_own l.name in_list (no_scalar l.name (λ h at. clause_type one_scope one m.one_scoped i l at_l l.name refl h at)) in
+        let b = both_own l.name in_list
+        (no_scalar l.name (λ h at. clause_type one_scope one m.one_scoped i l at_l l.name refl h at)) in
         let here : Some b.at_one ≡ Some l = sym b.owns_one ∙ clause_found one m.one_good i l at_l in
         let is : b.at_one ≡ l = cc in
-        sym (by_param two m.two_good i n at_n l.name b.at_two b.owns_two (sym b.param ∙ ap (λ (z : Clause). z.param) is ∙ param_l ∙ sym param_n))
+        sym (by_param two m.two_good i n at_n l.name b.at_two b.owns_two
+        (sym b.param ∙ ap (λ (z : Clause). z.param) is ∙ param_l ∙ sym param_n))
 
     -- the second end's is
     second_listed : listed n.name names ≡ true → l.name ≡ n.name
@@ -218,11 +245,13 @@ module _ (ps : List Param) (scope one_scope two_scope after : Scope) (names : Li
         let carried = (join n.name).carried in_list in
         let a = m.two_scoped.clauses i n at_n in
         let b = both_own n.name in_list (no_scalar n.name (λ h at.
-        let both : Some (Many a.element a.len) ≡ Some (One h.kind) = sym a.type ∙ carried.at_two ∙ sym carried.at_one ∙ scalar_type one_scope one m.one_scoped n.name h at in
+        let both : Some (Many a.element a.len) ≡ Some (One h.kind) = sym a.type ∙ carried.at_two ∙ sym carried.at_one
+        ∙ scalar_type one_scope one m.one_scoped n.name h at in
         absurd (let bad : Many a.element a.len ≡ One h.kind = cc in cc))) in
         let here : Some b.at_two ≡ Some n = sym b.owns_two ∙ clause_found two m.two_good i n at_n in
         let is : b.at_two ≡ n = cc in
-        by_param one m.one_good i l at_l n.name b.at_one b.owns_one (b.param ∙ ap (λ (z : Clause). z.param) is ∙ param_n ∙ sym param_l)
+        by_param one m.one_good i l at_l n.name b.at_one b.owns_one
+        (b.param ∙ ap (λ (z : Clause). z.param) is ∙ param_n ∙ sym param_l)
 
     pub pair : IsPair names k l n
     pair = by (listed l.name names) refl (listed n.name names) refl where
@@ -252,15 +281,19 @@ module _ (ps : List Param) (scope one_scope two_scope after : Scope) (names : Li
         pair = pair i k a.clause b.clause at a.at b.at a.same_one.param b.same_one.param;
       }
 
-  pub taken_is : (i : ℕ) (k j : Clause) → slice_get mid.clauses i ≡ Some k → slice_get joint.clauses i ≡ Some j → (a : ArrayAt names mid one two i k)
+  pub taken_is : (i : ℕ) (k j : Clause) → slice_get mid.clauses i ≡ Some k → slice_get joint.clauses i ≡ Some j
+      → (a : ArrayAt names mid one two i k)
       → j ≡ taken_over names (Some a.at_one) (Some a.at_two) k
   taken_is i k j at_k at_j a =
       let p = mapped (at_ends names (standing one) (standing two)) mid.clauses i j at_j in
       let found : Some p.clause ≡ Some k = sym p.at ∙ at_k in
       let is : p.clause ≡ k = cc in
-      let found_one : of_param k.param one.clauses ≡ Some a.at_one = ap (λ n. of_param n one.clauses) (sym a.same_one.param) ∙ params_once one m.one_good i a.at_one a.is_one in
-      let found_two : of_param k.param two.clauses ≡ Some a.at_two = ap (λ n. of_param n two.clauses) (sym a.same_two.param) ∙ params_once two m.two_good i a.at_two a.is_two in
-      p.is ∙ ap (at_ends names (standing one) (standing two)) is ∙ ap (λ o. taken_over names o (of_param k.param two.clauses) k) found_one
+      let found_one : of_param k.param one.clauses ≡ Some a.at_one = ap (λ n. of_param n one.clauses) (sym a.same_one.param)
+      ∙ params_once one m.one_good i a.at_one a.is_one in
+      let found_two : of_param k.param two.clauses ≡ Some a.at_two = ap (λ n. of_param n two.clauses) (sym a.same_two.param)
+      ∙ params_once two m.two_good i a.at_two a.is_two in
+      p.is ∙ ap (at_ends names (standing one) (standing two)) is
+      ∙ ap (λ o. taken_over names o (of_param k.param two.clauses) k) found_one
       ∙ ap (λ o. taken_over names (Some a.at_one) o k) found_two
 
   pub follow : EndsFollow names mid one two
@@ -297,22 +330,29 @@ module _ (ps : List Param) (scope one_scope two_scope after : Scope) (names : Li
   settled = settle_static names one joint lost
 
   pub apart : TargetsApart names one joint
-  apart = targets_apart names one joint (mid.reserved ++ unlisted_locals names mid.scalars) (over_consistent mid joint m.good is_over) m.one_good
+  apart = targets_apart names one joint (mid.reserved ++ unlisted_locals names mid.scalars)
+      (over_consistent mid joint m.good is_over) m.one_good
       (λ y k at out. (let p = scalar_stands mid y k at in
-      has_right k.local mid.reserved (unlisted_locals names mid.scalars) (unlisted_has names mid.scalars p.place k p.at (ap (λ x. listed x names) p.named ∙ out))))
+      has_right k.local mid.reserved (unlisted_locals names mid.scalars)
+      (unlisted_has names mid.scalars p.place k p.at (ap (λ x. listed x names) p.named ∙ out))))
       m.came
 
   pub settled_good : IsConsistent (settle names one joint)
   settled_good = settle_consistent names one joint is_over.known lost apart
 
   -- a listed scalar stands alike at both ends
-  pub same_scalar : (y : Name) (h l : Held) → listed y names ≡ true → scalar one y ≡ Some h → scalar two y ≡ Some l → IsSameScalar h l
+  pub same_scalar : (y : Name) (h l : Held) → listed y names ≡ true → scalar one y ≡ Some h → scalar two y ≡ Some l
+      → IsSameScalar h l
   same_scalar y h l in_list at_h at_l =
       let carried = (join y).carried in_list in
-      let alike : same_local (scalar one y) (scalar two y) ≡ true = each_listed (stands_alike (standing one) (standing two)) names y m.places in_list in
-      let test : nat_eq h.local l.local ≡ true = subst (λ (o : Option Held). same_local (Some h) o ≡ true) at_l (subst (λ (o : Option Held). same_local o (scalar two y) ≡ true) at_h alike) in
+      let alike : same_local (scalar one y) (scalar two y)
+      ≡ true = each_listed (stands_alike (standing one) (standing two)) names y m.places in_list in
+      let test : nat_eq h.local l.local
+      ≡ true = subst (λ (o : Option Held). same_local (Some h) o ≡ true) at_l
+      (subst (λ (o : Option Held). same_local o (scalar two y) ≡ true) at_h alike) in
       let both : Some (One l.kind) ≡ Some (One h.kind) =
-      sym (scalar_type two_scope two m.two_scoped y l at_l) ∙ carried.at_two ∙ sym carried.at_one ∙ scalar_type one_scope one m.one_scoped y h at_h in
+      sym (scalar_type two_scope two m.two_scoped y l at_l) ∙ carried.at_two ∙ sym carried.at_one
+      ∙ scalar_type one_scope one m.one_scoped y h at_h in
       let kinds : One l.kind ≡ One h.kind = cc in
       record { local = sym (eqb-true h.local l.local test); kind = cc }
 
@@ -354,10 +394,12 @@ module _ (ps : List Param) (scope one_scope two_scope after : Scope) (names : Li
         let carried = (join x).carried e in
         let place : place_in (scalar end_ x) ≡ place_in (scalar one x) = rw e at (settled.places x) in
         let there = beside (scalar end_ x) (scalar one x) h at place in
-        let both : Some (h.local, h.kind) ≡ Some (there.scalar_there.local, there.scalar_there.kind) = sym (ap place_in at) ∙ place ∙ ap place_in there.is in
+        let both : Some (h.local, h.kind) ≡ Some (there.scalar_there.local, there.scalar_there.kind) =
+        sym (ap place_in at) ∙ place ∙ ap place_in there.is in
         let pair : (h.local, h.kind) ≡ (there.scalar_there.local, there.scalar_there.kind) = cc in
         let kind : there.scalar_there.kind ≡ h.kind = ap (λ (q : ℕ × Scalar). q.1) (sym pair) in
-        carried.at_after ∙ sym carried.at_one ∙ scalar_type one_scope one m.one_scoped x there.scalar_there there.is ∙ ap (λ (t : Scalar). Some (One t)) kind
+        carried.at_after ∙ sym carried.at_one ∙ scalar_type one_scope one m.one_scoped x there.scalar_there there.is
+        ∙ ap (λ (t : Scalar). Some (One t)) kind
 
   placed : (o p : Option Held) → place_in o ≡ place_in p → is_some p ≡ true → is_some o ≡ true
   placed None None is there = there
@@ -373,7 +415,8 @@ module _ (ps : List Param) (scope one_scope two_scope after : Scope) (names : Li
         let place : place_in (scalar end_ x) ≡ place_in (scalar one x) = rw e at (settled.places x) in
         placed (scalar end_ x) (scalar one x) place (m.one_scoped.every_scalar x t (carried.at_one ∙ sym carried.at_after ∙ at))
 
-  array_as : (s : Scope) (k j : Clause) → look_up after j.name ≡ look_up s k.name → k.size ≡ j.size → k.length ≡ j.length → k.length_local ≡ j.length_local → IsArrayOf (entry_names ps) s k → IsArrayOf (entry_names ps) after j
+  array_as : (s : Scope) (k j : Clause) → look_up after j.name ≡ look_up s k.name → k.size ≡ j.size → k.length ≡ j.length
+      → k.length_local ≡ j.length_local → IsArrayOf (entry_names ps) s k → IsArrayOf (entry_names ps) after j
   array_as s k j type size long local a = record {
     element = a.element;
     len = a.len;
@@ -393,11 +436,15 @@ module _ (ps : List Param) (scope one_scope two_scope after : Scope) (names : Li
         let n = later mid.clauses one.clauses i e.was.before m.one_follow e.was.at in
         let both : Some n.clause ≡ Some e.last = sym n.at ∙ e.at_last in
         let is : n.clause ≡ e.last = cc in
-        array_as one_scope n.clause j (carried.at_after ∙ sym carried.at_one ∙ ap (look_up one_scope) (e.name ∙ ap (λ (z : Clause). z.name) (sym is)))
-        (n.same_one.size ∙ sym e.was.size) (n.same_one.length_same ∙ sym e.was.length_same) (n.same_one.length_local ∙ sym e.was.length_local) (m.one_scoped.clauses i n.clause n.at)
+        array_as one_scope n.clause j (carried.at_after ∙ sym carried.at_one
+        ∙ ap (look_up one_scope) (e.name ∙ ap (λ (z : Clause). z.name) (sym is)))
+        (n.same_one.size ∙ sym e.was.size) (n.same_one.length_same ∙ sym e.was.length_same)
+        (n.same_one.length_local ∙ sym e.was.length_local) (m.one_scoped.clauses i n.clause n.at)
     by false out =
-        let name : e.was.before.name ≡ e.last.name = follow.unlisted i e.was.before e.last e.was.at e.at_last (ap (λ x. listed x names) (sym e.name) ∙ out) in
-        array_as scope e.was.before j ((join j.name).as_before out ∙ ap (look_up scope) (e.name ∙ sym name)) (sym e.was.size) (sym e.was.length_same) (sym e.was.length_local)
+        let name : e.was.before.name ≡ e.last.name =
+        follow.unlisted i e.was.before e.last e.was.at e.at_last (ap (λ x. listed x names) (sym e.name) ∙ out) in
+        array_as scope e.was.before j ((join j.name).as_before out ∙ ap (look_up scope) (e.name ∙ sym name)) (sym e.was.size)
+        (sym e.was.length_same) (sym e.was.length_local)
         (m.scoped.clauses i e.was.before e.was.at)
 
   pub settled_scoped : IsScoped ps after end_

@@ -1,5 +1,6 @@
 -- s-note is sound.
-use Rattle.std.proofs.Common.{◌≡◌, refl, sym, ◌∙◌, ap, subst, arith, ℕ, ◌+◌, Bool, true, false, List, [], ◌∷◌, length, Option, Some, None, ℤ, pos, negsuc, nat_le}
+use Rattle.std.proofs.Common.{◌≡◌, refl, sym, ◌∙◌, ap, subst, arith, ℕ, ◌+◌, Bool, true, false, List, [], ◌∷◌, length, Option}
+use Rattle.std.proofs.Common.{Some, None, ℤ, pos, negsuc, nat_le}
 use Rattle.std.specs.Ordering.{int_eq}
 use Rattle.side_certs.specs.LinearForm.{LinearForm, is_within, rises_from}
 use Rattle.side_certs.specs.Closes.{closes}
@@ -34,19 +35,22 @@ pairs_rise : (least : ℕ) (args : List ℤ) (ts : List (ℕ × ℤ)) → pairs 
 pairs_rise least [] ts is = let none : [] ≡ ts = cc in subst (λ (l : List (ℕ × ℤ)). rises_from least l ≡ true) none refl
 pairs_rise least (s ∷ []) ts is = absurd (let bad : None ≡ Some ts = is in cc)
 pairs_rise least (negsuc s ∷ k ∷ rest) ts is = absurd (let bad : None ≡ Some ts = is in cc)
-pairs_rise least (pos s ∷ k ∷ rest) ts is = by (nat_le least s) refl (nat_le s most_symbol) refl (int_eq k (pos 0)) refl (λ us there. pairs_rise (s + 1) rest us there) where
-  by : (a : Bool) → nat_le least s ≡ a → (b : Bool) → nat_le s most_symbol ≡ b → (d : Bool) → int_eq k (pos 0) ≡ d
-      → ((us : List (ℕ × ℤ)) → pairs (s + 1) rest ≡ Some us → rises_from (s + 1) us ≡ true) → rises_from least ts ≡ true
-  by false e b f d g more = absurd (let bad : None ≡ Some ts = rw e at is in cc)
-  by true e false f d g more = absurd (let bad : None ≡ Some ts = rw (e, f) at is in cc)
-  by true e true f true g more = absurd (let bad : None ≡ Some ts = rw (e, f, g) at is in cc)
-  by true e true f false g more = on (pairs (s + 1) rest) refl (rw (e, f, g) at is) where
-    on : (o : Option (List (ℕ × ℤ))) → pairs (s + 1) rest ≡ o → term_before (Some s) k (pairs (s + 1) rest) ≡ Some ts → rises_from least ts ≡ true
-    on None at there = absurd (let bad : None ≡ Some ts = rw at at there in cc)
-    on (Some us) at there =
-        let both : Some ((s, k) ∷ us) ≡ Some ts = rw at at there in
-        let one : (s, k) ∷ us ≡ ts = cc in
-        subst (λ (l : List (ℕ × ℤ)). rises_from least l ≡ true) one (rw (e, g, more us at) refl)
+pairs_rise least (pos s ∷ k ∷ rest) ts is =
+    by (nat_le least s) refl (nat_le s most_symbol) refl (int_eq k (pos 0)) refl (λ us there. pairs_rise (s + 1) rest us there)
+  where
+    by : (a : Bool) → nat_le least s ≡ a → (b : Bool) → nat_le s most_symbol ≡ b → (d : Bool) → int_eq k (pos 0) ≡ d
+        → ((us : List (ℕ × ℤ)) → pairs (s + 1) rest ≡ Some us → rises_from (s + 1) us ≡ true) → rises_from least ts ≡ true
+    by false e b f d g more = absurd (let bad : None ≡ Some ts = rw e at is in cc)
+    by true e false f d g more = absurd (let bad : None ≡ Some ts = rw (e, f) at is in cc)
+    by true e true f true g more = absurd (let bad : None ≡ Some ts = rw (e, f, g) at is in cc)
+    by true e true f false g more = on (pairs (s + 1) rest) refl (rw (e, f, g) at is) where
+      on : (o : Option (List (ℕ × ℤ))) → pairs (s + 1) rest ≡ o → term_before (Some s) k (pairs (s + 1) rest) ≡ Some ts
+          → rises_from least ts ≡ true
+      on None at there = absurd (let bad : None ≡ Some ts = rw at at there in cc)
+      on (Some us) at there =
+          let both : Some ((s, k) ∷ us) ≡ Some ts = rw at at there in
+          let one : (s, k) ∷ us ≡ ts = cc in
+          subst (λ (l : List (ℕ × ℤ)). rises_from least l ≡ true) one (rw (e, g, more us at) refl)
 
 flat_rises : (args : List ℤ) (f : LinearForm) → flat args ≡ Some f → rises_from 0 f.terms ≡ true
 flat_rises [] f is = absurd (let bad : None ≡ Some f = is in cc)
@@ -62,14 +66,17 @@ flat_rises (k ∷ rest) f is = by (pairs 0 rest) refl where
         subst (λ (g : LinearForm). rises_from 0 g.terms ≡ true) one (pairs_rise 0 rest ts at)
 
 -- a form that a certificate closes mentions only symbols with a top
-pub closed_known : (c : Context) (args : List ℤ) (f : LinearForm) (k : Cert) → IsConsistent c → flat args ≡ Some f → closes c.facts c.tops f k ≡ true → Known (length c.tops) f
+pub closed_known : (c : Context) (args : List ℤ) (f : LinearForm) (k : Cert) → IsConsistent c → flat args ≡ Some f
+    → closes c.facts c.tops f k ≡ true → Known (length c.tops) f
 closed_known c args f k s is closed =
-    below_known (length c.tops) f (nothing_below (length c.tops) 0 f.terms (flat_rises args f is) (goal_known c.facts c.tops f k closed facts)) where
+    below_known (length c.tops) f (nothing_below (length c.tops) 0 f.terms (flat_rises args f is)
+    (goal_known c.facts c.tops f k closed facts)) where
       facts : FactsBelow (length c.tops) c.facts
       facts i g at = below_nothing (length c.tops) g.terms (known_below (length c.tops) g.terms (s.facts_known i g at))
 
 -- a form that was closed becomes a fact
-pub note_done : (ps : List Param) (scope : Scope) (c : Context) (args : List ℤ) (f : LinearForm) (k : Cert) → IsConsistent c → IsScoped ps scope c
+pub note_done : (ps : List Param) (scope : Scope) (c : Context) (args : List ℤ) (f : LinearForm) (k : Cert) → IsConsistent c
+    → IsScoped ps scope c
     → flat args ≡ Some f → closes c.facts c.tops f k ≡ true → StmtDone ps scope scope (λ env. env) c nothing (with_fact f c)
 note_done ps scope c args f k s scoped is closed = record {
   moves = fact_moves c f;
@@ -84,9 +91,11 @@ note_done ps scope c args f k s scoped is closed = record {
     left = vars;
     ticks = 0;
     runs = done mem vars;
-    fits = fits_fact call numbers c f env mem (local_at vars) known (closed_holds c.facts c.tops f k closed numbers fits.holds) fits;
+    fits = fits_fact call numbers c f env mem (local_at vars) known (closed_holds c.facts c.tops f k closed numbers fits.holds)
+        fits;
     kept = λ l in_list. refl;
-    unwritten = λ i x y at_x at_y writes. (let both : Some y ≡ Some x = sym at_y ∙ at_x in let one : y ≡ x = cc in ap (λ (z : Clause). value_of env z.name) one);
+    unwritten = λ i x y at_x at_y writes.
+        (let both : Some y ≡ Some x = sym at_y ∙ at_x in let one : y ≡ x = cc in ap (λ (z : Clause). value_of env z.name) one);
     outside = λ address out. refl;
     time = omega arith;
   };
@@ -110,9 +119,11 @@ note_sound step alone at ps scope c s scoped =
     room f k is closed true e = rw e (note_done ps scope c step.args f k s scoped is closed)
     room f k is closed false e = rw e tt
 
-    certs : (f : LinearForm) → flat step.args ≡ Some f → (ks : List Cert) → Yields Q ((cert at ks f >>= (λ _. added at f >>= (λ _. give nothing))) c)
+    certs : (f : LinearForm) → flat step.args ≡ Some f → (ks : List Cert)
+        → Yields Q ((cert at ks f >>= (λ _. added at f >>= (λ _. give nothing))) c)
     certs f is [] = tt
     certs f is (k ∷ ks) = by (closes c.facts c.tops f k) refl where
-      by : (b : Bool) → closes c.facts c.tops f k ≡ b → Yields Q ((cert at (k ∷ ks) f >>= (λ _. added at f >>= (λ _. give nothing))) c)
+      by : (b : Bool) → closes c.facts c.tops f k ≡ b
+          → Yields Q ((cert at (k ∷ ks) f >>= (λ _. added at f >>= (λ _. give nothing))) c)
       by true e = rw e (room f k is e (has_room c) refl)
       by false e = rw e tt

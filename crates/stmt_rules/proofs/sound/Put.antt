@@ -1,5 +1,7 @@
 -- s-put and s-move are sound.
-use Rattle.std.proofs.Common.{◌≡◌, refl, sym, ◌∙◌, ap, subst, arith, ℕ, suc, ◌+◌, ◌*◌, ◌%◌, ◌<◌, ◌≤◌, ◌≤ℤ◌, inl, inr, Bool, true, false, List, [], ◌∷◌, length, get_or, Option, Some, None, slice_get, pos, negsuc, set, mul-le-mul_left}
+use Rattle.std.proofs.Common.{◌≡◌, refl, sym, ◌∙◌, ap, subst, arith, ℕ, suc, ◌+◌, ◌*◌, ◌%◌, ◌<◌, ◌≤◌, ◌≤ℤ◌, inl, inr, Bool, true}
+use Rattle.std.proofs.Common.{false, List, [], ◌∷◌, length, get_or, Option, Some, None, slice_get, pos, negsuc, set}
+use Rattle.std.proofs.Common.{mul-le-mul_left}
 use Rattle.std.specs.FinMap.{get}
 use Rattle.std.proofs.lemmas.Int.{ints}
 use Rattle.std.proofs.lemmas.Option.{slice_get-get_or}
@@ -78,7 +80,8 @@ top_fits Flag bytes is = absurd (cc)
 abbrev pub room : LinearForm → LinearForm → LinearForm
 room l f = sum_of (negsuc 0) ((pos 1, l) ∷ (negsuc 0, f) ∷ [])
 
-room_is : (v : ℕ → ℕ) (l f : LinearForm) (n i : ℕ) → value_at v l ≡ pos n → value_at v f ≡ pos i → pos 0 ≤ℤ value_at v (room l f) → i < n
+room_is : (v : ℕ → ℕ) (l f : LinearForm) (n i : ℕ) → value_at v l ≡ pos n → value_at v f ≡ pos i → pos 0 ≤ℤ value_at v (room l f)
+    → i < n
 room_is v l f n i length_is index_is not_below =
     let whole = value_plus v (times (pos 1) l) (plus (times (negsuc 0) f) (constant (negsuc 0))) in
     let rest = value_plus v (times (negsuc 0) f) (constant (negsuc 0)) in
@@ -88,7 +91,8 @@ room_is v l f n i length_is index_is not_below =
     omega (arith, ints, whole, rest, one, two, three, length_is, index_is, not_below)
 
 -- the range of an element is inside the range of its array
-pub element_inside : (call : Call) (v : ℕ → ℕ) (k : Clause) (i : ℕ) (found : Option Arg) (mem : Bytes) (locals : Locals) → ClauseFits call v k found mem locals → i < length (elements found)
+pub element_inside : (call : Call) (v : ℕ → ℕ) (k : Clause) (i : ℕ) (found : Option Arg) (mem : Bytes) (locals : Locals)
+    → ClauseFits call v k found mem locals → i < length (elements found)
     → (address : ℕ) → Within (element_range call k i) address → Within (range_of call k.param) address
 element_inside call v k i found mem locals f less address at =
     let long = bytes_length k.size found f.array in
@@ -99,7 +103,10 @@ element_inside call v k i found mem locals f less address at =
     let high = at.1 in
     (omega (arith, low), omega (arith, high, long, size, product))
 
-module _ (ps : List Param) (scope : Scope) (f g : Env → ℕ) (t : Scalar) (before mid after : Context) (p q : ExprOut) (one : ExprDone ps scope f Word before p mid) (two : ExprDone ps scope g t mid q after) (a : Name) (k : Clause) (owned : own after a ≡ Some k) (size : element_size t ≡ Some k.size) (shown : (v : ℕ → ℕ) → Holds v after.facts after.tops → pos 0 ≤ℤ value_at v (room k.length p.form)) where
+module _ (ps : List Param) (scope : Scope) (f g : Env → ℕ) (t : Scalar) (before mid after : Context) (p q : ExprOut)
+    (one : ExprDone ps scope f Word before p mid) (two : ExprDone ps scope g t mid q after) (a : Name) (k : Clause)
+    (owned : own after a ≡ Some k) (size : element_size t ≡ Some k.size)
+    (shown : (v : ℕ → ℕ) → Holds v after.facts after.tops → pos 0 ≤ℤ value_at v (room k.length p.form)) where
   abbrev cmd : Cmd
   cmd = roll-Cmd (c.Store (size_of k.size) (address k p.code) q.code)
 
@@ -131,29 +138,38 @@ module _ (ps : List Param) (scope : Scope) (f g : Env → ℕ) (t : Scalar) (bef
     bytes : Stands left_mem (call.pointers k.param + k.size * f env) (element_bytes k.size (g env))
     kept : (address : ℕ) → (Within (element_range call k (f env)) address → ⊥) → get left_mem address ≡ get mem address
 
-  stored : (lengths : Name → ℕ) (w : Weights) (call : Call) (numbers : ℕ → ℕ) (env : Env) (mem : Bytes) (vars : Vars) → IsTyped lengths scope env → FitsBy call numbers before env mem (local_at vars) → Stored w call numbers env mem vars
+  stored : (lengths : Name → ℕ) (w : Weights) (call : Call) (numbers : ℕ → ℕ) (env : Env) (mem : Bytes) (vars : Vars)
+      → IsTyped lengths scope env → FitsBy call numbers before env mem (local_at vars) → Stored w call numbers env mem vars
   stored lengths w call numbers env mem vars typed fits =
       let r = one.runs lengths call numbers env mem vars typed fits in
       let s = two.runs lengths call r.others env mem vars typed r.fits in
       let here : ClauseFits call s.others k (value_of env a) mem (local_at vars) = s.fits.clauses a k owned in
       let start : ℕ = call.pointers k.param in
-      let index : value_at s.others p.form ≡ pos (f env) = known_same (length mid.tops) p.form r.others s.others one.known s.agree ∙ r.form in
-      let inside = room_is s.others k.length p.form (length (elements (value_of env a))) (f env) here.form index (shown s.others s.fits.holds) in
+      let index : value_at s.others p.form ≡ pos (f env) = known_same (length mid.tops) p.form r.others s.others one.known s.agree
+      ∙ r.form in
+      let inside = room_is s.others k.length p.form (length (elements (value_of env a))) (f env) here.form index
+      (shown s.others s.fits.holds) in
       let sized : IsSize k.size = size_is k.size (value_of env a) here.array in
-      let place : Placed start k.size (f env) = placed start k.size (f env) (length (elements (value_of env a))) (length (array_bytes (value_of env a))) sized here.aligned (bytes_length k.size (value_of env a) here.array) here.ends inside in
+      let place : Placed start k.size (f env) =
+      placed start k.size (f env) (length (elements (value_of env a))) (length (array_bytes (value_of env a))) sized
+      here.aligned (bytes_length k.size (value_of env a) here.array) here.ends inside in
       let old : ℕ = get_or (elements (value_of env a)) (f env) 0 in
-      let stands = element_read k.size (value_of env a) mem start (f env) old here.array here.stands (slice_get-get_or (elements (value_of env a)) (f env) 0 inside) in
+      let stands = element_read k.size (value_of env a) mem start (f env) old here.array here.stands
+      (slice_get-get_or (elements (value_of env a)) (f env) 0 inside) in
       let top = top_fits t k.size size in
       let number = s.small in
       let small : g env ≤ element_top k.size = omega (arith, top, number) in
       let st = element_stored k.size (start + k.size * f env) old (g env) mem sized place.aligned small stands.0 in
       record {
         others = s.others;
-        agree = agree_on (length before.tops) (length mid.tops) numbers r.others s.others (taken_length before.tops mid.tops one.extends.tops) r.agree s.agree;
+        agree = agree_on (length before.tops) (length mid.tops) numbers r.others s.others
+            (taken_length before.tops mid.tops one.extends.tops) r.agree s.agree;
         fits = s.fits;
         left_mem = st.0;
         runs = next cmd [] (weight w) 0 mem st.0 st.0 vars vars vars
-            (stores (size_of k.size) (address k p.code) q.code (start + k.size * f env) (g env) mem st.0 vars (value_address mem vars k start (f env) p.code sized here.pointer place.small r.value) s.value st.1.store) (done st.0 vars);
+            (stores (size_of k.size) (address k p.code) q.code (start + k.size * f env) (g env) mem st.0 vars
+            (value_address mem vars k start (f env) p.code sized here.pointer place.small r.value) s.value st.1.store)
+            (done st.0 vars);
         inside = inside;
         small = small;
         bytes = st.1.stands;
@@ -161,9 +177,11 @@ module _ (ps : List Param) (scope : Scope) (f g : Env → ℕ) (t : Scalar) (bef
       }
 
   module _ (final : Context) (sem : Env → Env)
-      (fits_after : (w : Weights) (call : Call) (numbers : ℕ → ℕ) (env : Env) (mem : Bytes) (vars : Vars) → (s : Stored w call numbers env mem vars) → FitsBy call s.others final (sem env) s.left_mem (local_at vars))
+      (fits_after : (w : Weights) (call : Call) (numbers : ℕ → ℕ) (env : Env) (mem : Bytes) (vars : Vars)
+      → (s : Stored w call numbers env mem vars) → FitsBy call s.others final (sem env) s.left_mem (local_at vars))
       (unwritten : (env : Env) → UnwrittenKept before.clauses final.clauses env (sem env)) where
-    ran : (w : Weights) (call : Call) (numbers : ℕ → ℕ) (env : Env) (mem : Bytes) (vars : Vars) → Stored w call numbers env mem vars
+    ran : (w : Weights) (call : Call) (numbers : ℕ → ℕ) (env : Env) (mem : Bytes) (vars : Vars)
+        → Stored w call numbers env mem vars
         → StmtRan w call sem before (storing k p.code q.code) final numbers env mem vars
     ran w call numbers env mem vars s = record {
       others = s.others;
@@ -178,19 +196,24 @@ module _ (ps : List Param) (scope : Scope) (f g : Env → ℕ) (t : Scalar) (bef
       outside = λ address out. s.kept address (λ within.
           let here = clause_stands after a k owned in
           out here.place k (ap (λ ks. slice_get ks here.place) (sym clauses_same) ∙ here.at)
-          (element_inside call s.others k (f env) (value_of env a) mem (local_at vars) (s.fits.clauses a k owned) s.inside address within));
-      time = (let is : (cost_all w call (cmd ∷ []) []).0 ≡ weight w = ap (λ (n : ℕ × List LinearForm). n.0) (cost_is w call []) in omega (arith, is));
+          (element_inside call s.others k (f env) (value_of env a) mem (local_at vars) (s.fits.clauses a k owned) s.inside address
+          within));
+      time = (let is : (cost_all w call (cmd ∷ []) []).0 ≡ weight w = ap (λ (n : ℕ × List LinearForm). n.0) (cost_is w call []) in
+          omega (arith, is));
     }
 
     completed : (end_scope : Scope) → Moves before final → IsConsistent final → IsScoped ps end_scope final
-        → ((lengths : Name → ℕ) (env : Env) → IsTyped lengths scope env → IsTyped lengths end_scope (sem env)) → StmtDone ps scope end_scope sem before (storing k p.code q.code) final
+        → ((lengths : Name → ℕ) (env : Env) → IsTyped lengths scope env → IsTyped lengths end_scope (sem env))
+        → StmtDone ps scope end_scope sem before (storing k p.code q.code) final
     completed end_scope moved consistent scoped kept = record {
       moves = moved;
       consistent = consistent;
       scoped = scoped;
       typed = kept;
-      trips = λ w call rest. cost_is w call rest ∙ ap (λ (n : ℕ). (n, rest)) (ap (λ (n : ℕ × List LinearForm). n.0) (sym (cost_is w call [])));
-      runs = λ lengths w call numbers env mem vars is fits below. ran w call numbers env mem vars (stored lengths w call numbers env mem vars is fits);
+      trips = λ w call rest. cost_is w call rest
+          ∙ ap (λ (n : ℕ). (n, rest)) (ap (λ (n : ℕ × List LinearForm). n.0) (sym (cost_is w call [])));
+      runs = λ lengths w call numbers env mem vars is fits below. ran w call numbers env mem vars
+          (stored lengths w call numbers env mem vars is fits);
     }
 
   -- s-put
@@ -201,11 +224,13 @@ module _ (ps : List Param) (scope : Scope) (f g : Env → ℕ) (t : Scalar) (bef
   abbrev pub put_values : Env → Env
   put_values env = put_some a (with_element (f env) (g env) (value_of env a)) env
 
-  put_fits : (w : Weights) (call : Call) (numbers : ℕ → ℕ) (env : Env) (mem : Bytes) (vars : Vars) → (s : Stored w call numbers env mem vars) → FitsBy call s.others counted (put_values env) s.left_mem (local_at vars)
+  put_fits : (w : Weights) (call : Call) (numbers : ℕ → ℕ) (env : Env) (mem : Bytes) (vars : Vars)
+      → (s : Stored w call numbers env mem vars) → FitsBy call s.others counted (put_values env) s.left_mem (local_at vars)
   put_fits w call numbers env mem vars s =
       let new = there k.size (f env) (g env) (value_of env a) (s.fits.clauses a k owned).array in
       counted_fits call s.others after a (put_values env) s.left_mem (local_at vars)
-      (written_fits call s.others after a k (f env) (g env) env (put_values env) mem s.left_mem (local_at vars) s.fits owned (record {
+      (written_fits call s.others after a k (f env) (g env) env (put_values env) mem s.left_mem (local_at vars) s.fits owned
+      (record {
         inside = s.inside;
         small = s.small;
         value = put_here a (with_element (f env) (g env) (value_of env a)) new.0 env new.1;
@@ -230,19 +255,25 @@ module _ (ps : List Param) (scope : Scope) (f g : Env → ℕ) (t : Scalar) (bef
     by : (b : Bool) → same a j.name ≡ b → value_of (put_values env) l.name ≡ value_of env j.name
     by false e = ap (value_of (put_values env)) name ∙ put_else a j.name (with_element (f env) (g env) (value_of env a)) env e
     by true e =
-        let found : own counted j.name ≡ Some l = ap (own counted) (sym name) ∙ clause_found counted (counted_consistent after a two.consistent) i l at_l in
+        let found : own counted j.name
+        ≡ Some l = ap (own counted) (sym name) ∙ clause_found counted (counted_consistent after a two.consistent) i l at_l
+        in
         let mine : own after j.name ≡ Some j = clause_found after two.consistent i j at in
         let both : Some (written j) ≡ Some l = sym (own_counted after a j.name ∙ rw (e, mine) refl) ∙ found in
         let is : written j ≡ l = cc in
         let more : l.writes ≡ j.writes + 1 = ap (λ (z : Clause). z.writes) (sym is) in
         absurd (omega (arith, more, writes))
 
-  pub put_done : ((lengths : Name → ℕ) (env : Env) → IsTyped lengths scope env → IsTyped lengths scope (put_values env)) → StmtDone ps scope scope put_values before (storing k p.code q.code) counted
-  put_done = completed counted put_values put_fits put_unwritten scope (moves_on before after counted moves (written_moves after a)) (counted_consistent after a two.consistent) (written_scoped ps scope after a two.scoped)
+  pub put_done : ((lengths : Name → ℕ) (env : Env) → IsTyped lengths scope env → IsTyped lengths scope (put_values env))
+      → StmtDone ps scope scope put_values before (storing k p.code q.code) counted
+  put_done = completed counted put_values put_fits put_unwritten scope
+      (moves_on before after counted moves (written_moves after a)) (counted_consistent after a two.consistent)
+      (written_scoped ps scope after a two.scoped)
 
   -- s-move
 
-  module _ (b : Name) (u : Scalar) (n : Len) (may : can_move counted a b ≡ true) (array : look_up scope a ≡ Some (Many u n)) (free : look_up scope b ≡ None) where
+  module _ (b : Name) (u : Scalar) (n : Len) (may : can_move counted a b ≡ true) (array : look_up scope a ≡ Some (Many u n))
+      (free : look_up scope b ≡ None) where
     abbrev moved : Context
     moved = with_clause a (renamed b) counted
 
@@ -264,7 +295,8 @@ module _ (ps : List Param) (scope : Scope) (f g : Env → ℕ) (t : Scalar) (bef
       none : (e : Bool) → same a b ≡ e → (o : Option Clause) → own after b ≡ o → own counted b ≡ None → IsNew a b after.clauses
       none e at None found is = inr found
       none true at (Some z) found is = inl at
-      none false at (Some z) found is = absurd (let bad : Some z ≡ None = sym (own_counted after a b ∙ rw (at, found) refl) ∙ is in cc)
+      none false at (Some z) found is =
+          absurd (let bad : Some z ≡ None = sym (own_counted after a b ∙ rw (at, found) refl) ∙ is in cc)
 
       by : IsNew a b counted.clauses → IsNew a b after.clauses
       by (inl e) = inl e
@@ -276,12 +308,15 @@ module _ (ps : List Param) (scope : Scope) (f g : Env → ℕ) (t : Scalar) (bef
       by None e = e
       by (Some h) e =
           let s = scalar_stands after b h e in
-          absurd (let bad : None ≡ Some (One h.kind) = sym free ∙ ap (look_up scope) (sym s.named) ∙ two.scoped.scalars s.place h s.at in cc)
+          absurd (let bad : None ≡ Some (One h.kind) = sym free ∙ ap (look_up scope) (sym s.named)
+          ∙ two.scoped.scalars s.place h s.at in cc)
 
-    move_fits : (w : Weights) (call : Call) (numbers : ℕ → ℕ) (env : Env) (mem : Bytes) (vars : Vars) → (s : Stored w call numbers env mem vars) → FitsBy call s.others moved (move_values env) s.left_mem (local_at vars)
+    move_fits : (w : Weights) (call : Call) (numbers : ℕ → ℕ) (env : Env) (mem : Bytes) (vars : Vars)
+        → (s : Stored w call numbers env mem vars) → FitsBy call s.others moved (move_values env) s.left_mem (local_at vars)
     move_fits w call numbers env mem vars s =
         let made = there k.size (f env) (g env) (value_of env a) (s.fits.clauses a k owned).array in
-        moved_fits call s.others after a b k (f env) (g env) env (move_values env) mem s.left_mem (local_at vars) s.fits owned new no_scalar (record {
+        moved_fits call s.others after a b k (f env) (g env) env (move_values env) mem s.left_mem (local_at vars) s.fits owned new
+        no_scalar (record {
           inside = s.inside;
           small = s.small;
           value = put_here b (with_element (f env) (g env) (value_of env a)) made.0 env made.1;
@@ -298,7 +333,8 @@ module _ (ps : List Param) (scope : Scope) (f g : Env → ℕ) (t : Scalar) (bef
     no_array i j at is = by new where
       by : IsNew a b after.clauses → same a b ≡ true
       by (inl e) = e
-      by (inr none) = absurd (let bad : None ≡ Some j = sym none ∙ ap (own after) (same_is b j.name is) ∙ clause_found after two.consistent i j at in cc)
+      by (inr none) = absurd (let bad : None
+          ≡ Some j = sym none ∙ ap (own after) (same_is b j.name is) ∙ clause_found after two.consistent i j at in cc)
 
     move_unwritten : (env : Env) → UnwrittenKept before.clauses moved.clauses env (move_values env)
     move_unwritten env i j l at_j at_l writes = by (same b j.name) refl (same a j.name) refl where
@@ -318,21 +354,31 @@ module _ (ps : List Param) (scope : Scope) (f g : Env → ℕ) (t : Scalar) (bef
       -- the array that was written has more writes
       mine : same a j.name ≡ true → k ≡ j
       mine e =
-          let both : Some k ≡ Some j = sym owned ∙ ap (own after) (same_is a j.name e) ∙ clause_found after two.consistent i j at in
+          let both : Some k ≡ Some j = sym owned ∙ ap (own after) (same_is a j.name e) ∙ clause_found after two.consistent i j at
+          in
           cc
 
-      by : (e : Bool) → same b j.name ≡ e → (d : Bool) → same a j.name ≡ d → value_of (move_values env) l.name ≡ value_of env j.name
-      by false e false d = ap (value_of (move_values env)) name ∙ put_else b j.name (with_element (f env) (g env) (value_of env a)) env e
+      by : (e : Bool) → same b j.name ≡ e → (d : Bool) → same a j.name ≡ d
+          → value_of (move_values env) l.name ≡ value_of env j.name
+      by false e false d = ap (value_of (move_values env)) name
+          ∙ put_else b j.name (with_element (f env) (g env) (value_of env a)) env e
       by false e true d =
-          absurd (let bad : None ≡ Some l = sym (own_renamed counted a b (written k) (counted_consistent after a two.consistent) counted_owned new_counted j.name ∙ rw (e, d) refl) ∙ found in cc)
+          absurd (let bad : None ≡ Some l = sym
+          (own_renamed counted a b (written k) (counted_consistent after a two.consistent) counted_owned new_counted j.name
+          ∙ rw (e, d) refl) ∙ found in cc)
       by true e d at_d =
-          let both : Some (renamed b (written k)) ≡ Some l = sym (own_renamed counted a b (written k) (counted_consistent after a two.consistent) counted_owned new_counted j.name ∙ rw e refl) ∙ found in
+          let both : Some (renamed b (written k))
+          ≡ Some l = sym (own_renamed counted a b (written k) (counted_consistent after a two.consistent) counted_owned
+          new_counted j.name ∙ rw e refl) ∙ found in
           let is : renamed b (written k) ≡ l = cc in
           let same_one : same a j.name ≡ true = ap (λ x. same x j.name) (same_is a b (no_array i j at e)) ∙ e in
           let old : k.writes ≡ j.writes = ap (λ (z : Clause). z.writes) (mine same_one) in
           let more : l.writes ≡ k.writes + 1 = ap (λ (z : Clause). z.writes) (sym is) in
           absurd (omega (arith, more, writes, old))
 
-    pub move_done : ((lengths : Name → ℕ) (env : Env) → IsTyped lengths scope env → IsTyped lengths (bind b (Many u n) scope) (move_values env)) → StmtDone ps scope (bind b (Many u n) scope) move_values before (storing k p.code q.code) moved
-    move_done = completed moved move_values move_fits move_unwritten (bind b (Many u n) scope) (moves_on before after moved moves (renamed_moves after a b)) moved_consistent
+    pub move_done : ((lengths : Name → ℕ) (env : Env) → IsTyped lengths scope env
+        → IsTyped lengths (bind b (Many u n) scope) (move_values env))
+        → StmtDone ps scope (bind b (Many u n) scope) move_values before (storing k p.code q.code) moved
+    move_done = completed moved move_values move_fits move_unwritten (bind b (Many u n) scope)
+        (moves_on before after moved moves (renamed_moves after a b)) moved_consistent
         (moved_scoped ps scope counted a b u n array free (written_scoped ps scope after a two.scoped))

@@ -1,5 +1,6 @@
 -- An element that is stored at its address.
-use Rattle.std.proofs.Common.{◌≡◌, ◌≢◌, refl, sym, ◌∙◌, ap, arith, ℕ, zero, suc, ◌+◌, ◌*◌, ◌/◌, ◌%◌, ◌^◌, ◌<◌, ◌≤◌, inl, inr, [], ◌∷◌, Some, slice_get, mod-eq_of_lt}
+use Rattle.std.proofs.Common.{◌≡◌, ◌≢◌, refl, sym, ◌∙◌, ap, arith, ℕ, zero, suc, ◌+◌, ◌*◌, ◌/◌, ◌%◌, ◌^◌, ◌<◌, ◌≤◌, inl, inr, []}
+use Rattle.std.proofs.Common.{◌∷◌, Some, slice_get, mod-eq_of_lt}
 use Rattle.std.specs.FinMap.{get, insert}
 use Rattle.std.specs.Int.{w32, to_le_bytes}
 use Rattle.rv_memory.specs.Ranges.{Bytes, Stands, Within}
@@ -17,7 +18,8 @@ pub record Placed (start bytes i : ℕ) : Type 0 where
   pub small : start + bytes * i < 2 ^ 32
   pub aligned : (start + bytes * i) % bytes ≡ 0
 
-pub placed : (start bytes i n whole : ℕ) → IsSize bytes → start % bytes ≡ 0 → whole ≡ bytes * n → start + whole ≤ 2 ^ 32 → i < n → Placed start bytes i
+pub placed : (start bytes i n whole : ℕ) → IsSize bytes → start % bytes ≡ 0 → whole ≡ bytes * n → start + whole ≤ 2 ^ 32 → i < n
+    → Placed start bytes i
 placed start bytes i n whole (inl one) aligned size ends less =
     let size_one : whole ≡ 1 * n = rw one at size in
     rw one (record { small = omega (arith, size_one, ends, less); aligned = omega arith })
@@ -47,7 +49,8 @@ one_stored at m n mem small old =
     record {
       store = rw (multiple, there) refl;
       stands = λ k v is. new k v is;
-      others = λ a out. get-insert_other mem at (n % 256) a (let far : a ≢ at + 0 = apart at 1 0 a out (omega arith) in λ e. far (e ∙ sym place));
+      others = λ a out. get-insert_other mem at (n % 256) a
+          (let far : a ≢ at + 0 = apart at 1 0 a out (omega arith) in λ e. far (e ∙ sym place));
     }
   where
     new : (k v : ℕ) → slice_get (n ∷ []) k ≡ Some v → get (stored size.One mem at n) (at + k) ≡ Some v
@@ -73,12 +76,16 @@ module _ (mem : Bytes) (at n : ℕ) where
   four_new : n ≤ 4294967295 → (k v : ℕ) → slice_get (to_le_bytes w32 n) k ≡ Some v → get fourth (at + k) ≡ Some v
   four_new small zero v is =
       let place : at + 0 ≡ at = omega arith in
-      rw place (get-insert_other third (at + 3) (n / 16777216) at (λ e. absurd (omega (arith, e))) ∙ get-insert_other second (at + 2) (n / 65536 % 256) at (λ e. absurd (omega (arith, e)))
-      ∙ get-insert_other first (at + 1) (n / 256 % 256) at (λ e. absurd (omega (arith, e))) ∙ get-insert_same mem at (n % 256) ∙ is)
+      rw place (get-insert_other third (at + 3) (n / 16777216) at (λ e. absurd (omega (arith, e)))
+      ∙ get-insert_other second (at + 2) (n / 65536 % 256) at (λ e. absurd (omega (arith, e)))
+      ∙ get-insert_other first (at + 1) (n / 256 % 256) at (λ e. absurd (omega (arith, e))) ∙ get-insert_same mem at (n % 256)
+      ∙ is)
   four_new small (suc zero) v is =
-      get-insert_other third (at + 3) (n / 16777216) (at + 1) (λ e. absurd (omega (arith, e))) ∙ get-insert_other second (at + 2) (n / 65536 % 256) (at + 1) (λ e. absurd (omega (arith, e)))
+      get-insert_other third (at + 3) (n / 16777216) (at + 1) (λ e. absurd (omega (arith, e)))
+      ∙ get-insert_other second (at + 2) (n / 65536 % 256) (at + 1) (λ e. absurd (omega (arith, e)))
       ∙ get-insert_same first (at + 1) (n / 256 % 256) ∙ is
-  four_new small (suc (suc zero)) v is = get-insert_other third (at + 3) (n / 16777216) (at + 2) (λ e. absurd (omega (arith, e))) ∙ get-insert_same second (at + 2) (n / 65536 % 256) ∙ is
+  four_new small (suc (suc zero)) v is = get-insert_other third (at + 3) (n / 16777216) (at + 2) (λ e. absurd (omega (arith, e)))
+      ∙ get-insert_same second (at + 2) (n / 65536 % 256) ∙ is
   four_new small (suc (suc (suc zero))) v is =
       let byte : n / 16777216 ≡ n / 16777216 % 256 = omega (arith, small) in
       get-insert_same third (at + 3) (n / 16777216) ∙ ap Some byte ∙ is
@@ -88,10 +95,13 @@ module _ (mem : Bytes) (at n : ℕ) where
   four_others a out =
       let place : at + 0 ≡ at = omega arith in
       let zeroth : a ≢ at + 0 = apart at 4 0 a out (omega arith) in
-      get-insert_other third (at + 3) (n / 16777216) a (apart at 4 3 a out (omega arith)) ∙ get-insert_other second (at + 2) (n / 65536 % 256) a (apart at 4 2 a out (omega arith))
-      ∙ get-insert_other first (at + 1) (n / 256 % 256) a (apart at 4 1 a out (omega arith)) ∙ get-insert_other mem at (n % 256) a (λ e. zeroth (e ∙ sym place))
+      get-insert_other third (at + 3) (n / 16777216) a (apart at 4 3 a out (omega arith))
+      ∙ get-insert_other second (at + 2) (n / 65536 % 256) a (apart at 4 2 a out (omega arith))
+      ∙ get-insert_other first (at + 1) (n / 256 % 256) a (apart at 4 1 a out (omega arith))
+      ∙ get-insert_other mem at (n % 256) a (λ e. zeroth (e ∙ sym place))
 
-four_stored : (at m n : ℕ) (mem : Bytes) → at % 4 ≡ 0 → n ≤ 4294967295 → Stands mem at (to_le_bytes w32 m) → IsStored 4 at n mem (stored size.Four mem at n)
+four_stored : (at m n : ℕ) (mem : Bytes) → at % 4 ≡ 0 → n ≤ 4294967295 → Stands mem at (to_le_bytes w32 m)
+    → IsStored 4 at n mem (stored size.Four mem at n)
 four_stored at m n mem aligned small old =
     let place : at + 0 ≡ at = omega arith in
     let one : get mem at ≡ Some (m % 256) = rw place at (old 0 (m % 256) refl) in
@@ -102,7 +112,8 @@ four_stored at m n mem aligned small old =
     }
 
 -- an element is stored where one stands
-pub element_stored : (bytes at m n : ℕ) (mem : Bytes) → IsSize bytes → at % bytes ≡ 0 → n ≤ element_top bytes → Stands mem at (element_bytes bytes m)
+pub element_stored : (bytes at m n : ℕ) (mem : Bytes) → IsSize bytes → at % bytes ≡ 0 → n ≤ element_top bytes
+    → Stands mem at (element_bytes bytes m)
     → (after : Bytes) × IsStored bytes at n mem after
 element_stored bytes at m n mem (inl one) aligned small old =
     let here : Stands mem at (m ∷ []) = rw one at old in

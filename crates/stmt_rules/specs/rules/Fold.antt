@@ -1,6 +1,7 @@
 -- s-fold [li, lh, lx, ls]: a scalar s gets the value of the kid for each element of an array a, in which that has the name x.
 -- Condition 4, before the kid: a names a clause. 5, before it too: li, lh and lx are free, ls is free for s, and all four differ.
--- The kid is judged with s in ls at a fresh symbol of its type, and then x in lx at one of the type of elements. The context after
+-- The kid is judged with s in ls at a fresh symbol of its type, and then
+-- x in lx at one of the type of elements. The context after
 -- is the one before, but that symbols stay, with s in ls at a further fresh symbol. The trip form is the length.
 use Rattle.std.specs.Prelude.{ℕ, ℤ, nat_eq, Bool, not, ◌&&◌, List, [], ◌∷◌, Some}
 use Rattle.model_syntax.specs.declared.expr.Scalar.{Scalar}

@@ -7,7 +7,8 @@
 -- not listed are reserved there, and so are li and lh; the facts there are the kept ones, x - lo and hi - x - 1. At the block's
 -- end come in this order: 5, that every statement has its node; 6, that each listed scalar stands in the local of before; 7, that
 -- each clause has its name of before, and its writes too unless that is listed; and the certificates. The context after is that
--- after hi, but that symbols stay, that listed scalars have fresh ones, that clauses have the writes of the end, and that the kept
+-- after hi, but that symbols stay, that listed scalars have fresh ones,
+-- that clauses have the writes of the end, and that the kept
 -- facts that do not mention x are added.
 use Rattle.std.specs.Prelude.{ℕ, ◌+◌, ℤ, pos, negsuc, nat_eq, nat_le, Bool, not, ◌&&◌, List, [], ◌∷◌, length, drop}
 use Rattle.std.specs.List.{find, list_all}
@@ -27,8 +28,10 @@ use Rattle.expr_rules.specs.declared.output.ExprOut.{ExprOut}
 use Rattle.expr_rules.specs.Words.{Rule, ◌>>=◌, need, found, made, give, fresh, fact, shown, sum_of}
 use Rattle.stmt_rules.specs.declared.loops.Counter.{Counter}
 use Rattle.stmt_rules.specs.declared.output.StmtOut.{StmtOut}
-use Rattle.stmt_rules.specs.Loops.{local_arg, trip_form, is_unused, reserved, counting, given_first, one_more, all_kept_but, all_named}
-use Rattle.stmt_rules.specs.Nesting.{now, unlisted_reserved, end_form, all_shown, all_kept, ended, same_local, taken, placed, all_renewed}
+use Rattle.stmt_rules.specs.Loops.{local_arg, trip_form, is_unused, reserved, counting, given_first, one_more, all_kept_but}
+use Rattle.stmt_rules.specs.Loops.{all_named}
+use Rattle.stmt_rules.specs.Nesting.{now, unlisted_reserved, end_form, all_shown, all_kept, ended, same_local, taken, placed}
+use Rattle.stmt_rules.specs.Nesting.{all_renewed}
 
 -- two locals and the constant of a form at least, one certificate for the trips and two for each fact
 abbrev pub counts : Step → ℕ → Bool
@@ -131,7 +134,8 @@ opens at x names keep certs k low high = do
   give (standing c, standing d)
 
 -- after the block
-abbrev pub finishes : ℕ → Name → List Name → List Le → List Cert → Counter → BExpr → BExpr → Standing × Standing → StmtOut → Rule StmtOut
+abbrev pub finishes : ℕ → Name → List Name → List Le → List Cert → Counter → BExpr → BExpr → Standing × Standing → StmtOut
+    → Rule StmtOut
 finishes at x names keep certs k low high marks out = do
   end_ ← ends at x names keep (counted (1 + length keep)) (drop (1 + length keep) certs) marks.0 marks.1
   _ ← leaves at x names keep end_

@@ -1,10 +1,13 @@
 -- s-if []: one kid, the test, and two blocks. Each block begins in the context after the test, with the facts of the test's flag:
 -- where it is true for the first, where it is false for the second; the locals of scalars that are not listed are reserved there.
--- At the end of a block come in this order: condition 4 of the first or 5 of the second, that every statement has its node; 6, that
+-- At the end of a block come in this order: condition 4 of the first or 5
+-- of the second, that every statement has its node; 6, that
 -- each clause whose name is not listed has the name and the writes of before; and a certificate for each kept fact, in which the
--- listed scalars have their forms of this end. After both: 7, that each listed scalar stands in the same local at both ends, and 8,
+-- listed scalars have their forms of this end. After both: 7, that each
+-- listed scalar stands in the same local at both ends, and 8,
 -- that each listed array is of the same parameter. The context after is that after the test, but that symbols stay, that listed
--- scalars have fresh symbols and listed arrays their names of the ends with the greater writes, and that the kept facts are added.
+-- scalars have fresh symbols and listed arrays their names of the ends
+-- with the greater writes, and that the kept facts are added.
 use Rattle.std.specs.Prelude.{ℕ, List, [], ◌∷◌, ◌++◌, drop, length}
 use Rattle.std.specs.List.{list_all}
 use Rattle.rup_base.specs.Word.{counted}
@@ -19,7 +22,8 @@ use Rattle.bed_syntax.specs.declared.command.Cmd.{Cmd, roll-Cmd}
 use Rattle.bed_syntax.specs.declared.command.Cmd.TheOpen as c
 use Rattle.expr_rules.specs.declared.output.ExprOut.{ExprOut}
 use Rattle.expr_rules.specs.Words.{Rule, ◌>>=◌, need, give}
-use Rattle.stmt_rules.specs.Nesting.{now, all_added, unlisted_reserved, end_form, all_shown, all_kept, unlisted_kept, ended, stands_alike, is_array_alike, taken, all_renewed}
+use Rattle.stmt_rules.specs.Nesting.{now, all_added, unlisted_reserved, end_form, all_shown, all_kept, unlisted_kept, ended}
+use Rattle.stmt_rules.specs.Nesting.{stands_alike, is_array_alike, taken, all_renewed}
 use Rattle.stmt_rules.specs.declared.output.StmtOut.{StmtOut}
 
 -- what a block gives, and what stands at its end

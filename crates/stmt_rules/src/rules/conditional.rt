@@ -1,6 +1,8 @@
 //! s-if: one of two blocks runs, by the test.
-ghost use Rattle.std.specs.Prelude.{◌≡◌, true, IfOk};
+ghost use Rattle.std.specs.Prelude.{◌≡◌, true, [], ◌∷◌, IfOk};
 ghost use Rattle.rup_base.specs.Answers.{AnswersWith};
+ghost use Rattle.bed_syntax.specs.declared.command.Cmd.{roll-Cmd};
+ghost use Rattle.bed_syntax.specs.declared.command.Cmd.TheOpen as cmd;
 ghost use Rattle.stmt_rules.specs.Narrow.{all_narrow};
 ghost use Rattle.stmt_rules.specs.rules.If as spec;
 
@@ -8,7 +10,7 @@ use crate::nesting::{
     all_added, all_kept, all_renewed, all_shown, are_arrays_alike, forms_at, stand_alike,
     unlisted_kept, unlisted_reserved,
 };
-use crate::output::{StmtOut, all_forms};
+use crate::output::{StmtOut, all_forms, one_command};
 use bed_syntax::{BExpr, Cmd};
 use expr_rules::words::need;
 use model_syntax::Le;
@@ -86,20 +88,27 @@ pub fn met(
 {
     let (one, at_one) = one;
     let (two, at_two) = two;
+    let out = choosing(ctx.allocator(), test, one, two)?;
     joins(ctx, at, names, keep, &at_one, &at_two)?;
-    Ok(choosing(ctx.allocator(), test, one, two)?)
+    Ok(out)
 }
 
 /// The command that takes one of two sides.
 fn choosing(alloc: Global, test: BExpr, one: StmtOut, two: StmtOut) -> Result<StmtOut, NoMemory>
     ensures { IfOk result (λ out. out ≡ spec.choosing test one two) }
 {
-    let first = Box::new(alloc, Cmd::Seq(one.cmds))?;
-    let second = Box::new(alloc, Cmd::Seq(two.cmds))?;
-    let mut cmds = List::new(alloc);
-    cmds.push(Cmd::Cond(test, first, second))?;
+    let cmds = choice(alloc, test, one.cmds, two.cmds)?;
     Ok(StmtOut {
         cmds,
         trips: all_forms(one.trips, two.trips)?,
     })
+}
+
+/// The command that takes one of two sequences.
+fn choice(alloc: Global, test: BExpr, one: List<Cmd>, two: List<Cmd>) -> Result<List<Cmd>, NoMemory>
+    ensures { IfOk result (λ all. all ≡ roll-Cmd (cmd.Cond test (roll-Cmd (cmd.Seq one)) (roll-Cmd (cmd.Seq two))) ∷ []) }
+{
+    let first = Box::new(alloc, Cmd::Seq(one))?;
+    let second = Box::new(alloc, Cmd::Seq(two))?;
+    one_command(alloc, Cmd::Cond(test, first, second))
 }

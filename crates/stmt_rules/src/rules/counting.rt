@@ -14,7 +14,7 @@ use crate::loops::{Counter, all_kept_but, counting, local_arg, trip_form};
 use crate::nesting::{
     all_kept, all_renewed, all_shown, is_listed, of_param, scalar, unlisted_reserved,
 };
-use crate::output::{StmtOut, all_forms};
+use crate::output::{StmtOut, all_forms, one_form};
 use bed_syntax::BExpr;
 use deriv_tree::Step;
 use expr_rules::words::{fact, fresh, made, need, shown};
@@ -85,12 +85,13 @@ pub fn finishes(
     requires narrow { all_narrow keep.now ≡ true }
     ensures { AnswersWith result ctx.new (spec.finishes at x.now names.now keep.now certs.now k low high marks out ctx.old) }
 {
+    let out = looping(ctx.allocator(), k, low, high, out)?;
     let (before, start) = marks;
     let place = second_place(keep);
     let certs = second_certs(certs, keep);
     let end = ends(ctx, at, x, names, keep, place, certs, before, &start)?;
     leaves(ctx, at, x, names, keep, &end)?;
-    Ok(looping(ctx.allocator(), k, low, high, out)?)
+    Ok(out)
 }
 
 /// The certificates of the facts at the end.
@@ -203,17 +204,26 @@ pub fn begins(
     before: &Mark,
 ) -> Result<(), Fail>
     requires { all_narrow keep.now ≡ true }
-    ensures { AnswersWith result ctx.new (spec.begins at x.now names.now keep.now k.now low.now high.now before.now.scalars ctx.old) }
+    ensures { AnswersWith result ctx.new
+        (spec.begins at x.now names.now keep.now k.now low.now high.now before.now.scalars ctx.old) }
 {
     all_renewed(ctx, at, names, before.scalars())?;
     let symbol = fresh(ctx, at, u32::MAX)?;
     ctx.set_scalar(x, k.count, symbol.copy(), Scalar::Word)?;
-    unlisted_reserved(ctx, names, before.scalars())?;
-    ctx.reserve_local(k.count)?;
-    ctx.reserve_local(k.last)?;
+    loop_reserved(ctx, names, k, before.scalars())?;
     all_kept(ctx, at, keep)?;
     fact(ctx, at, from_low(&symbol, low))?;
     fact(ctx, at, below_high(&symbol, high))
+}
+
+/// The locals of the scalars that are not listed are reserved, and those of the loop.
+fn loop_reserved(ctx: &mut Ctx, names: &[Name], k: &Counter, scalars: &[Held]) -> Result<(), Fail>
+    ensures { AnswersWith result ctx.new (spec.loop_reserved names.now k.now scalars.now ctx.old) }
+{
+    unlisted_reserved(ctx, names, scalars)?;
+    ctx.reserve_local(k.count)?;
+    ctx.reserve_local(k.last)?;
+    Ok(())
 }
 
 /// The count is at least the first number.
@@ -355,10 +365,6 @@ fn looping(
 {
     let none = List::new(alloc);
     let cmds = counting(alloc, none, k.count, k.last, low, high, out.cmds)?;
-    let mut trips = List::new(alloc);
-    trips.push(k.trips)?;
-    Ok(StmtOut {
-        cmds,
-        trips: all_forms(trips, out.trips)?,
-    })
+    let trips = all_forms(one_form(alloc, k.trips)?, out.trips)?;
+    Ok(StmtOut { cmds, trips })
 }

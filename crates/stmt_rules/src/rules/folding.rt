@@ -1,12 +1,18 @@
 //! s-fold: a scalar gets the value of an expression for each element of an array.
-ghost use Rattle.std.specs.Prelude.{◌≡◌, IfOk};
+ghost use Rattle.std.specs.Prelude.{◌≡◌, ◌∷◌, IfOk};
 ghost use Rattle.rup_base.specs.Answers.{Answers, AnswersWith};
 ghost use Rattle.sym_heap.specs.Context as context;
+ghost use Rattle.bed_syntax.specs.declared.expression.BExpr.TheVariants as code;
+ghost use Rattle.bed_syntax.specs.declared.command.Cmd.{roll-Cmd};
+ghost use Rattle.bed_syntax.specs.declared.command.Cmd.TheOpen as cmd;
+ghost use Rattle.stmt_rules.specs.Loops as loops;
 ghost use Rattle.stmt_rules.specs.rules.Fold as spec;
 
-use crate::loops::{FoldLocals, copied, counting, has_trips, length_code, loaded, local_arg};
+use crate::loops::{
+    FoldLocals, copied, counting, has_trips, length_code, loaded, local_arg, with_length,
+};
 use crate::nesting::top_of;
-use crate::output::StmtOut;
+use crate::output::{StmtOut, more, one_command};
 use crate::rules::mapping;
 use bed_syntax::{BExpr, Cmd};
 use expr_rules::words::{fresh, need, no_instance};
@@ -102,10 +108,9 @@ pub fn ends(
 fn turn(alloc: Global, l: FoldLocals, clause: &Clause, value: BExpr) -> Result<List<Cmd>, NoMemory>
     ensures { IfOk result (λ cmds. cmds ≡ spec.turn l clause.now value) }
 {
-    let mut cmds = List::new(alloc);
-    cmds.push(loaded(alloc, clause, l.turn.count, l.turn.element)?)?;
-    cmds.push(Cmd::Set(l.so_far, value))?;
-    Ok(cmds)
+    let load = loaded(alloc, clause, l.turn.count, l.turn.element)?;
+    let cmds = one_command(alloc, load)?;
+    more(cmds, Cmd::Set(l.so_far, value))
 }
 
 /// After the kid, of which the value has this code; `first` has the local and the type that the scalar had.
@@ -123,21 +128,54 @@ pub fn after(
 {
     let high = length_code(at, &clause)?;
     need(has_trips(ctx, &clause), at, 4)?;
+    let out = looping(ctx.allocator(), l, clause, first.0, high, value)?;
     ends(ctx, at, s, l, first.1, before)?;
-    let alloc = ctx.allocator();
-    let turn = turn(alloc, l, &clause, value)?;
-    let mut cmds = List::new(alloc);
-    cmds.push(Cmd::Set(l.so_far, BExpr::Var(first.0)))?;
-    let cmds = counting(
-        alloc,
-        cmds,
-        l.turn.count,
-        l.turn.last,
-        BExpr::Lit(0),
-        high,
-        turn,
-    )?;
-    let mut trips = List::new(alloc);
-    trips.push(clause.length)?;
-    Ok(StmtOut { cmds, trips })
+    Ok(out)
+}
+
+/// The number in the scalar's local `from` goes to that of the fold, and then there is a turn for each element, whose number has
+/// the code `high`.
+fn looping(
+    alloc: Global,
+    l: FoldLocals,
+    clause: Clause,
+    from: u32,
+    high: BExpr,
+    value: BExpr,
+) -> Result<StmtOut, NoMemory>
+    ensures { IfOk result (λ out. out ≡ spec.folding l clause from high value) }
+{
+    let cmds = commands(alloc, l, &clause, from, high, value)?;
+    with_length(alloc, cmds, clause)
+}
+
+/// The commands of a fold.
+fn commands(
+    alloc: Global,
+    l: FoldLocals,
+    clause: &Clause,
+    from: u32,
+    high: BExpr,
+    value: BExpr,
+) -> Result<List<Cmd>, NoMemory>
+    ensures { IfOk result (λ cmds. cmds ≡ (spec.folding l clause.now from high value).cmds) }
+{
+    let turn = turn(alloc, l, clause, value)?;
+    counted(alloc, l, from, high, turn)
+}
+
+/// The commands around a turn.
+fn counted(
+    alloc: Global,
+    l: FoldLocals,
+    from: u32,
+    high: BExpr,
+    turn: List<Cmd>,
+) -> Result<List<Cmd>, NoMemory>
+    ensures { IfOk result (λ cmds. cmds
+        ≡ roll-Cmd (cmd.Set l.so_far (code.Var from)) ∷ loops.counting l.turn.count l.turn.last (code.Lit 0) high turn) }
+{
+    let start = one_command(alloc, Cmd::Set(l.so_far, BExpr::Var(from)))?;
+    let zero = BExpr::Lit(0);
+    counting(alloc, start, l.turn.count, l.turn.last, zero, high, turn)
 }

@@ -5,9 +5,9 @@ ghost use Rattle.stmt_rules.specs.rules.Map as spec;
 
 use crate::loops::{
     ElementLocals, copied, counting, element_kind, has_trips, length_code, loaded, local_arg,
-    place_of,
+    place_of, with_length,
 };
-use crate::output::StmtOut;
+use crate::output::{StmtOut, more, one_command};
 use bed_syntax::{BExpr, Cmd};
 use expr_rules::elements::{element_top, size_of};
 use expr_rules::words::{fresh, need, no_instance};
@@ -114,11 +114,10 @@ fn turn(
 ) -> Result<List<Cmd>, NoMemory>
     ensures { IfOk result (λ cmds. cmds ≡ spec.turn l clause.now value) }
 {
-    let mut cmds = List::new(alloc);
-    cmds.push(loaded(alloc, clause, l.count, l.element)?)?;
+    let load = loaded(alloc, clause, l.count, l.element)?;
+    let cmds = one_command(alloc, load)?;
     let place = place_of(alloc, clause, l.count)?;
-    cmds.push(Cmd::Store(size_of(clause.size), place, value))?;
-    Ok(cmds)
+    more(cmds, Cmd::Store(size_of(clause.size), place, value))
 }
 
 /// After the kid, of which the value has this code.
@@ -135,12 +134,23 @@ pub fn after(
 {
     let high = length_code(at, &clause)?;
     need(has_trips(ctx, &clause), at, 4)?;
+    let out = looping(ctx.allocator(), l, clause, high, value)?;
     ends(ctx, at, a, before)?;
-    let alloc = ctx.allocator();
+    Ok(out)
+}
+
+/// A turn for each element, whose number has this code.
+fn looping(
+    alloc: Global,
+    l: ElementLocals,
+    clause: Clause,
+    high: BExpr,
+    value: BExpr,
+) -> Result<StmtOut, NoMemory>
+    ensures { IfOk result (λ out. out ≡ spec.mapping l clause high value) }
+{
     let turn = turn(alloc, l, &clause, value)?;
     let none = List::new(alloc);
     let cmds = counting(alloc, none, l.count, l.last, BExpr::Lit(0), high, turn)?;
-    let mut trips = List::new(alloc);
-    trips.push(clause.length)?;
-    Ok(StmtOut { cmds, trips })
+    with_length(alloc, cmds, clause)
 }

@@ -9,5 +9,6 @@ returns-in_err-scale c =
 
 pub returns : goal.returns
 returns c =
-    let sum = added_is c.args.form.now c.in_ok-scale.field-0 c.args.symbol c.args.coefficient c.terms.ensures.rising c.requires.before c.requires.counts in
+    let sum = added_is c.args.form.now c.in_ok-scale.field-0 c.args.symbol c.args.coefficient c.terms.ensures.rising
+    c.requires.before c.requires.counts in
     search (rules, sum)

@@ -8,7 +8,8 @@ abbrev pub invariant-walk-nodes : goal.invariant-walk-nodes
 invariant-walk-nodes g l = record {
   row : spec.walk l.owner l.cond (map (spec.judged (g.B.Book.turn l.book)) l.nodes) l.next l.left l.out l.ctx
       ≡ (spec.block_judged (g.B.Book.turn l.book) l.block).row l.fn.next l.owner l.cond l.stmts l.fn.ctx;
-  counted : l.next + sum (map (λ n. n.size) (map (spec.judged (g.B.Book.turn l.book)) l.nodes)) ≡ l.fn.next + (spec.block_judged (g.B.Book.turn l.book) l.block).size;
+  counted : l.next + sum (map (λ n. n.size) (map (spec.judged (g.B.Book.turn l.book)) l.nodes))
+      ≡ l.fn.next + (spec.block_judged (g.B.Book.turn l.book) l.block).size;
   small : l.next + sum (map (λ n. n.size) (map (spec.judged (g.B.Book.turn l.book)) l.nodes)) ≤ 20_000;
   behind : l.fn.next ≤ l.next;
   narrow : are_narrow l.left ≡ true;
@@ -29,7 +30,8 @@ abbrev pub decreases-side : goal.decreases-side
 decreases-side g l = 6 * (spec.block_judged (g.B.Book.turn l.book.now) l.block.now).size + 2
 
 abbrev pub decreases-sides : goal.decreases-sides
-decreases-sides g l = 6 * ((spec.block_judged (g.B.Book.turn l.book.now) l.one.now).size + (spec.block_judged (g.B.Book.turn l.book.now) l.two.now).size) + 3
+decreases-sides g l = 6 * ((spec.block_judged (g.B.Book.turn l.book.now) l.one.now).size
+    + (spec.block_judged (g.B.Book.turn l.book.now) l.two.now).size) + 3
 
 abbrev pub decreases-turns : goal.decreases-turns
 decreases-turns g l = 6 * (spec.block_judged (g.B.Book.turn l.book.now) l.block.now).size + 2

@@ -1,6 +1,6 @@
 use Rattle.std.proofs.Common.{rules, sym, ap, ◌∙◌, ◌+◌, arith}
 use Rattle.stmt_rules.proofs.Sizes.{expr_size_is}
-use Rattle.stmt_rules.proofs.instance.derived.Goals as goal
+use Rattle.stmt_rules.proofs.kids.derived.Goals as goal
 
 pub expr_instance-requires : goal.expr_instance-requires
 expr_instance-requires g c = rw (expr_size_is (g.B.Book.turn c.args.book.now) c.args.node.now) at c.requires
@@ -17,4 +17,5 @@ overflow_add-next g c =
     search (rules, small, size)
 
 pub returns-clause-counted : goal.returns-clause-counted
-returns-clause-counted g c = ap (λ n. c.args.next.now + n) (c.expr_size.ensures ∙ sym (expr_size_is (g.B.Book.turn c.args.book.now) c.args.node.now))
+returns-clause-counted g c = ap (λ n. c.args.next.now + n)
+    (c.expr_size.ensures ∙ sym (expr_size_is (g.B.Book.turn c.args.book.now) c.args.node.now))

@@ -1,5 +1,6 @@
 -- The meaning's numbers of one, two and four bytes are those of the memory.
-use Rattle.std.proofs.Common.{◌≡◌, ℕ, ◌+◌, ◌*◌, ◌/◌, ◌%◌, ◌^◌, ◌<◌, Bool, true, false, Option, Some, None, is_some, nat_eq, if◌then◌else◌, refl, sym, ap, ◌∙◌, arith}
+use Rattle.std.proofs.Common.{◌≡◌, ℕ, ◌+◌, ◌*◌, ◌/◌, ◌%◌, ◌^◌, ◌<◌, Bool, true, false, Option, Some, None, is_some, nat_eq}
+use Rattle.std.proofs.Common.{if◌then◌else◌, refl, sym, ap, ◌∙◌, arith}
 use Rattle.std.proofs.lemmas.Bool.{eqb-true}
 use Rattle.std.specs.FinMap.{get}
 use Rattle.bed_syntax.specs.declared.operation.Size.{Size}
@@ -44,13 +45,17 @@ stored_number size.Four m a v small =
     rw (two, three, third, fourth) refl
 
 -- a store at a multiple of the size, where a call says whether the memory has the bytes
-pub store_done : (size : Size) (m after : Bytes) (a v : ℕ) (done : Bool) → v < 2 ^ 32 → a % width size ≡ 0 → done ≡ is_some (number_at m (width size) a) → after ≡ (if done then with_number m (width size) a v else m) → store size m a v ≡ (if done then Some after else None)
+pub store_done : (size : Size) (m after : Bytes) (a v : ℕ) (done : Bool) → v < 2 ^ 32 → a % width size ≡ 0
+    → done ≡ is_some (number_at m (width size) a) → after ≡ (if done then with_number m (width size) a v else m)
+    → store size m a v ≡ (if done then Some after else None)
 store_done size m after a v done small aligned found value =
     ap (λ r. where_some (if nat_eq r 0 then word (λ q. get m q) size a else None) (stored size m a v)) aligned
     ∙ ap (λ n. where_some n (stored size m a v)) (word_number size m a)
     ∙ by_number (number_at m (width size) a) done found (stored_number size m a v small) value
   where
-    by_number : (n : Option ℕ) (done : Bool) → done ≡ is_some n → stored size m a v ≡ with_number m (width size) a v → after ≡ (if done then with_number m (width size) a v else m) → where_some n (stored size m a v) ≡ (if done then Some after else None)
+    by_number : (n : Option ℕ) (done : Bool) → done ≡ is_some n → stored size m a v ≡ with_number m (width size) a v
+        → after ≡ (if done then with_number m (width size) a v else m)
+        → where_some n (stored size m a v) ≡ (if done then Some after else None)
     by_number (Some n) true found is value = ap (λ x. Some x) (is ∙ sym value)
     by_number (Some n) false found is value = absurd (cc)
     by_number None true found is value = absurd (cc)
@@ -60,7 +65,8 @@ store_done size m after a v done small aligned found value =
 pub store_off : (size : Size) (m : Bytes) (a v : ℕ) → (a % width size ≡ 0 → ⊥) → store size m a v ≡ None
 store_off size m a v off = by_test (nat_eq (a % width size) 0) refl
   where
-    by_test : (t : Bool) → nat_eq (a % width size) 0 ≡ t → where_some (if t then word (λ q. get m q) size a else None) (stored size m a v) ≡ None
+    by_test : (t : Bool) → nat_eq (a % width size) 0 ≡ t
+        → where_some (if t then word (λ q. get m q) size a else None) (stored size m a v) ≡ None
     by_test true is = absurd (off (eqb-true (a % width size) 0 is))
     by_test false is = refl
 

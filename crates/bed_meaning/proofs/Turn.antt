@@ -12,7 +12,8 @@ use Rattle.bed_meaning.specs.Fuelled.{and_then, given, take_one, fuelled, choose
 abbrev pub left : State → ℕ → ℕ → State
 left s fuel ticks = record { fuel = fuel; ticks = ticks; mem = s.mem; vars = s.vars }
 
-turned : (m : ℕ) (test : State → Option ℕ) (price : ℕ) (body : Rule) (s : State) (v f : ℕ) → test s ≡ Some (suc v) → s.fuel ≡ suc f
+turned : (m : ℕ) (test : State → Option ℕ) (price : ℕ) (body : Rule) (s : State) (v f : ℕ) → test s ≡ Some (suc v)
+    → s.fuel ≡ suc f
     → turns (suc m) test price body s ≡ and_then (body (left s f (s.ticks + price))) (turns m test price body)
 turned m test price body s v f is some =
     ap (λ o. given o (λ n. choose n (fuelled (λ t. and_then (body t) (turns m test price body))) (λ t. Ok t) (spend price s))) is
@@ -37,5 +38,6 @@ goes_on w n c e body s v t below is no_turn ticks =
     let k : n - c ≡ suc (n - (c + 1)) = omega arith in
     let zeroed : value e s.mem s.vars ≡ Some 0 = is ∙ ap (λ i. Some i) no_turn in
     ap (λ i. loop_of w i e body s) k
-    ∙ ap (λ o. given o (λ i. choose i (fuelled (λ u. and_then (body u) (loop_of w (n - (c + 1)) e body))) (λ u. Ok u) (spend (expr_weight w e + w.turn) s))) zeroed
+    ∙ ap (λ o. given o (λ i. choose i (fuelled (λ u. and_then (body u) (loop_of w (n - (c + 1)) e body))) (λ u. Ok u)
+    (spend (expr_weight w e + w.turn) s))) zeroed
     ∙ ap (λ i. Ok (left s s.fuel i)) (sym ticks)

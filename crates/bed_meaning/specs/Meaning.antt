@@ -31,9 +31,12 @@ loop_of w n e body = turns n (λ s. value e s.mem s.vars) (expr_weight w e + w.t
 -- the number of tests of a loop is at most the fuel, so that it never ends a loop before the fuel does
 abbrev pub run_step : Weights → Cmd-F Rule → Rule
 run_step w (c.Set x e) =
-    fuelled (λ s. given (value e s.mem s.vars) (λ v. given (assigned x v s.vars) (λ vars. Ok (with_vars vars (spend (expr_weight w e + w.set) s)))))
+    fuelled (λ s. given (value e s.mem s.vars)
+    (λ v. given (assigned x v s.vars) (λ vars. Ok (with_vars vars (spend (expr_weight w e + w.set) s)))))
 run_step w (c.Store size a e) =
-    fuelled (λ s. given (value a s.mem s.vars) (λ at. given (value e s.mem s.vars) (λ v. given (store size s.mem at v) (λ mem. Ok (with_mem mem (spend (expr_weight w a + expr_weight w e + w.store) s))))))
+    fuelled (λ s. given (value a s.mem s.vars)
+    (λ at. given (value e s.mem s.vars)
+    (λ v. given (store size s.mem at v) (λ mem. Ok (with_mem mem (spend (expr_weight w a + expr_weight w e + w.store) s))))))
 run_step w (c.Cond e p q) =
     fuelled (λ s. given (value e s.mem s.vars) (λ v. choose v p q (spend (expr_weight w e + w.test) s)))
 run_step w (c.Seq cs) = fuelled (in_turn cs)

@@ -14,4 +14,5 @@ Keeps (Err Stuck) end = end ≡ Err Stuck
 Keeps (Err OutOfFuel) end = Unit {0}
 
 abbrev pub KeepsWithMoreFuel : Weights → Cmd → Type 0
-KeepsWithMoreFuel w c = (fuel more : ℕ) (mem : Bytes) (vars : Vars) → Keeps (exec w fuel c mem vars) (exec w (fuel + more) c mem vars)
+KeepsWithMoreFuel w c = (fuel more : ℕ) (mem : Bytes) (vars : Vars)
+    → Keeps (exec w fuel c mem vars) (exec w (fuel + more) c mem vars)

@@ -49,7 +49,8 @@ fn run(
     requires lawful { IsLawful w.now }
     requires small { cmd_size c.now < 2 ^ 32 }
     requires room { meter.old.ticks + meter.old.fuel * 2 ^ 40 + 2 ^ 40 < 2 ^ 128 }
-    ensures came { Came result (state_of meter.new mem.new locals.new) (spec.run w.now c.now (state_of meter.old mem.old locals.old)) }
+    ensures came { Came result (state_of meter.new mem.new locals.new)
+        (spec.run w.now c.now (state_of meter.old mem.old locals.old)) }
     ensures bounded { OnOk result (meter.new.ticks + meter.new.fuel * 2 ^ 40 ≤ meter.old.ticks + meter.old.fuel * 2 ^ 40) }
 {
     let limit = meter.fuel;
@@ -99,7 +100,8 @@ fn run_all(
     requires lawful { IsLawful w.now }
     requires small { sum (map cmd_size cs.now) < 2 ^ 32 }
     requires room { meter.old.ticks + meter.old.fuel * 2 ^ 40 + 2 ^ 40 < 2 ^ 128 }
-    ensures came { Came result (state_of meter.new mem.new locals.new) (in_turn (map (spec.run w.now) cs.now) (state_of meter.old mem.old locals.old)) }
+    ensures came { Came result (state_of meter.new mem.new locals.new)
+        (in_turn (map (spec.run w.now) cs.now) (state_of meter.old mem.old locals.old)) }
     ensures bounded { OnOk result (meter.new.ticks + meter.new.fuel * 2 ^ 40 ≤ meter.old.ticks + meter.old.fuel * 2 ^ 40) }
 {
     for c in cs {
@@ -122,7 +124,8 @@ fn run_turns(
     requires lawful { IsLawful w.now }
     requires small { expr_size e.now + cmd_size p.now < 2 ^ 32 }
     requires room { meter.old.ticks + meter.old.fuel * 2 ^ 40 + 2 ^ 40 < 2 ^ 128 }
-    ensures came { Came result (state_of meter.new mem.new locals.new) (loop_of w.now limit e.now (spec.run w.now p.now) (state_of meter.old mem.old locals.old)) }
+    ensures came { Came result (state_of meter.new mem.new locals.new)
+        (loop_of w.now limit e.now (spec.run w.now p.now) (state_of meter.old mem.old locals.old)) }
     ensures bounded { OnOk result (meter.new.ticks + meter.new.fuel * 2 ^ 40 ≤ meter.old.ticks + meter.old.fuel * 2 ^ 40 + 2 ^ 39) }
 {
     for _turn in 0..limit {

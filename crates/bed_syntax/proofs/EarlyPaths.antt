@@ -1,8 +1,10 @@
 -- What is read early is what some path reads first.
-use Rattle.std.proofs.Common.{◌≡◌, refl, sym, ap, ◌∙◌, subst, ℕ, zero, suc, Bool, true, false, not, ◌||◌, ◌&&◌, nat_eq, List, [], ◌∷◌, ◌++◌, map}
+use Rattle.std.proofs.Common.{◌≡◌, refl, sym, ap, ◌∙◌, subst, ℕ, zero, suc, Bool, true, false, not, ◌||◌, ◌&&◌, nat_eq, List, []}
+use Rattle.std.proofs.Common.{◌∷◌, ◌++◌, map}
 use Rattle.std.specs.Bool.{⊤}
 use Rattle.bed_syntax.specs.Pressure.{occurs, occurs_step, Early, early, early_step, early_in_turn}
-use Rattle.bed_syntax.specs.Paths.{Event, Reads, Sets, Path, read_by, read_by_step, followed, all_followed, turns, paths, paths_step, reads_first, some_first, EarlyIsSomePath}
+use Rattle.bed_syntax.specs.Paths.{Event, Reads, Sets, Path, read_by, read_by_step, followed, all_followed, turns, paths}
+use Rattle.bed_syntax.specs.Paths.{paths_step, reads_first, some_first, EarlyIsSomePath}
 use Rattle.bed_syntax.specs.Intervals.{Point}
 use Rattle.bed_syntax.specs.declared.expression.BExpr.{BExpr, BExpr-F, map-BExpr, roll-BExpr, fold-roll-BExpr, ind-BExpr}
 use Rattle.bed_syntax.specs.declared.expression.BExpr.TheOpen as e
@@ -78,8 +80,10 @@ module _ (x : ℕ) where
 
   first_or : (a : Path) (k l : Bool) → reads_first x a (k || l) ≡ (reads_first x a k || reads_first x a l)
   first_or [] k l = refl
-  first_or (Reads y ∷ a) k l = ap (λ z. nat_eq y x || z) (first_or a k l) ∙ or_over (nat_eq y x) (reads_first x a k) (reads_first x a l)
-  first_or (Sets y ∷ a) k l = ap (λ z. not (nat_eq y x) && z) (first_or a k l) ∙ and_over (not (nat_eq y x)) (reads_first x a k) (reads_first x a l)
+  first_or (Reads y ∷ a) k l = ap (λ z. nat_eq y x || z) (first_or a k l)
+      ∙ or_over (nat_eq y x) (reads_first x a k) (reads_first x a l)
+  first_or (Sets y ∷ a) k l = ap (λ z. not (nat_eq y x) && z) (first_or a k l)
+      ∙ and_over (not (nat_eq y x)) (reads_first x a k) (reads_first x a l)
 
   some_or : (ps : List Path) (k l : Bool) → some_first x ps (k || l) ≡ (some_first x ps k || some_first x ps l)
   some_or [] k l = refl
@@ -98,9 +102,11 @@ module _ (x : ℕ) where
   some_append : (ps qs : List Path) (k : Bool) → some_first x (ps ++ qs) k ≡ (some_first x ps k || some_first x qs k)
   some_append [] qs k = refl
   some_append (a ∷ ps) qs k =
-      ap (λ z. reads_first x a k || z) (some_append ps qs k) ∙ or_grouped (reads_first x a k) (some_first x ps k) (some_first x qs k)
+      ap (λ z. reads_first x a k || z) (some_append ps qs k)
+      ∙ or_grouped (reads_first x a k) (some_first x ps k) (some_first x qs k)
 
-  some_behind : (a : Path) (qs : List Path) (k : Bool) → Full qs → some_first x (map (λ b. a ++ b) qs) k ≡ reads_first x a (some_first x qs k)
+  some_behind : (a : Path) (qs : List Path) (k : Bool) → Full qs
+      → some_first x (map (λ b. a ++ b) qs) k ≡ reads_first x a (some_first x qs k)
   some_behind a [] k full = absurd full
   some_behind a (b ∷ []) k full =
       or_none (reads_first x (a ++ b) k) ∙ first_both a b k ∙ ap (reads_first x a) (sym (or_none (reads_first x b k)))
@@ -157,7 +163,8 @@ module _ (x : ℕ) where
   bare_expr y = map-BExpr ProvedExpr BExpr (λ p. p.0) y
 
   step_says : (y : BExpr-F ProvedExpr) (k : Bool)
-      → reads_first x (read_by_step (map-BExpr BExpr Path read_by (bare_expr y))) k ≡ (occurs_step (map-BExpr BExpr Point occurs (bare_expr y)) x || k)
+      → reads_first x (read_by_step (map-BExpr BExpr Path read_by (bare_expr y))) k
+      ≡ (occurs_step (map-BExpr BExpr Point occurs (bare_expr y)) x || k)
   step_says (e.Lit n) k = refl
   step_says (e.Var z) k = refl
   step_says (e.Bin op a b) k =
@@ -169,7 +176,8 @@ module _ (x : ℕ) where
   step_says (e.Table size bytes a) k = a.1 k
 
   expr_rolled : (y : BExpr-F BExpr)
-      → ((k : Bool) → reads_first x (read_by_step (map-BExpr BExpr Path read_by y)) k ≡ (occurs_step (map-BExpr BExpr Point occurs y) x || k))
+      → ((k : Bool) → reads_first x (read_by_step (map-BExpr BExpr Path read_by y)) k
+      ≡ (occurs_step (map-BExpr BExpr Point occurs y) x || k))
       → Says (roll-BExpr y)
   expr_rolled y h k =
       ap (λ (p : Path). reads_first x p k) (fold-roll-BExpr Path read_by_step y)
@@ -203,7 +211,8 @@ module _ (x : ℕ) where
         }
 
     step_tells : (y : Cmd-F Proved)
-        → Tells x (paths_step (suc n) (map-Cmd Cmd (List Path) (paths (suc n)) (bare y))) (early_step (map-Cmd Cmd Early early (bare y)))
+        → Tells x (paths_step (suc n) (map-Cmd Cmd (List Path) (paths (suc n)) (bare y)))
+        (early_step (map-Cmd Cmd Early early (bare y)))
     step_tells (c.Set z a) = record {
       full = tt;
       same = λ k.
@@ -246,7 +255,8 @@ module _ (x : ℕ) where
               ∙ ap (λ z. occurs a x || (k || z)) (p.1.same false);
         }
 
-    rolled : (y : Cmd-F Cmd) → Tells x (paths_step (suc n) (map-Cmd Cmd (List Path) (paths (suc n)) y)) (early_step (map-Cmd Cmd Early early y))
+    rolled : (y : Cmd-F Cmd) → Tells x (paths_step (suc n) (map-Cmd Cmd (List Path) (paths (suc n)) y))
+        (early_step (map-Cmd Cmd Early early y))
         → Tells x (paths (suc n) (roll-Cmd y)) (early (roll-Cmd y))
     rolled y h = rw (fold-roll-Cmd (List Path) (paths_step (suc n)) y, fold-roll-Cmd Early early_step y) h
 

@@ -3,7 +3,8 @@ use Rattle.std.proofs.Common.{◌≡◌, refl, ◌∙◌, ap, ℕ, ◌+◌, max,
 use Rattle.rup_base.specs.Gather.{joined, greatest}
 use Rattle.bed_syntax.specs.Intervals.{Point, throughout, with_ends, most_covering}
 use Rattle.bed_syntax.specs.Pressure.{occurs, occurs_step, points, points_step, Early, early, early_step, early_in_turn, pressure}
-use Rattle.bed_syntax.specs.Shape.{is_known, expr_depth, expr_depth_step, cmd_depth, cmd_depth_step, all_noted, expr_locals, expr_locals_step, cmd_locals, cmd_locals_step, noted, in_turn, numbers}
+use Rattle.bed_syntax.specs.Shape.{is_known, expr_depth, expr_depth_step, cmd_depth, cmd_depth_step, all_noted, expr_locals}
+use Rattle.bed_syntax.specs.Shape.{expr_locals_step, cmd_locals, cmd_locals_step, noted, in_turn, numbers}
 use Rattle.bed_syntax.specs.declared.operation.BOp.{BOp}
 use Rattle.bed_syntax.specs.declared.operation.Size.{Size}
 use Rattle.bed_syntax.specs.declared.expression.BExpr.{BExpr}
@@ -31,10 +32,18 @@ pub record Made (a : Cmd) (ps : List Point) (first : Early) (depth : ℕ) (notin
   pub notes : cmd_locals a ≡ noting
 
 pub lit : (n : ℕ) → Expr (expr.Lit n) (occurs_step (e.Lit n)) 1 (expr_locals_step (e.Lit n))
-lit n = record { marks = fold_lit Point occurs_step n; deep = fold_lit ℕ expr_depth_step n; notes = fold_lit Noting expr_locals_step n }
+lit n = record {
+  marks = fold_lit Point occurs_step n;
+  deep = fold_lit ℕ expr_depth_step n;
+  notes = fold_lit Noting expr_locals_step n;
+}
 
 pub var : (x : ℕ) → Expr (expr.Var x) (occurs_step (e.Var x)) 1 (expr_locals_step (e.Var x))
-var x = record { marks = fold_var Point occurs_step x; deep = fold_var ℕ expr_depth_step x; notes = fold_var Noting expr_locals_step x }
+var x = record {
+  marks = fold_var Point occurs_step x;
+  deep = fold_var ℕ expr_depth_step x;
+  notes = fold_var Noting expr_locals_step x;
+}
 
 pub bin : (op : BOp) {a b : BExpr} {m k : Point} {d f : ℕ} {l r : Noting} → Expr a m d l → Expr b k f r
     → Expr (expr.Bin op a b) (occurs_step (e.Bin op m k)) (1 + max d f) (expr_locals_step (e.Bin op l r))
@@ -55,8 +64,10 @@ load size {a} h = record {
 pub set : (y : ℕ) {a : BExpr} {m : Point} {d : ℕ} {l : Noting} → Expr a m d l
     → Made (cmd.Set y a) ((λ x. nat_eq y x || m x) ∷ []) (λ x later. m x || (not (nat_eq y x) && later)) d (λ xs. noted y (l xs))
 set y {a} h = record {
-  marks = fold_set (List Point) points_step y a ∙ ap {B = List Point} (λ (o : Point). (λ (x : ℕ). nat_eq y x || o x) ∷ []) h.marks;
-  reads = fold_set Early early_step y a ∙ ap {B = Early} (λ (o : Point) (x : ℕ) (later : Bool). o x || (not (nat_eq y x) && later)) h.marks;
+  marks = fold_set (List Point) points_step y a
+      ∙ ap {B = List Point} (λ (o : Point). (λ (x : ℕ). nat_eq y x || o x) ∷ []) h.marks;
+  reads = fold_set Early early_step y a
+      ∙ ap {B = Early} (λ (o : Point) (x : ℕ) (later : Bool). o x || (not (nat_eq y x) && later)) h.marks;
   deep = fold_set ℕ cmd_depth_step y a ∙ h.deep;
   notes = fold_set Noting cmd_locals_step y a ∙ ap {B = Noting} (λ (g : Noting) (xs : List ℕ). noted y (g xs)) h.notes;
 }
@@ -107,7 +118,8 @@ pub no_more : Row [] [] [] [] []
 no_more = record { marks = refl; reads = refl; deep = refl; notes = refl }
 
 infixr 10 ◌and◌
-pub ◌and◌ : {a : Cmd} {ps : List Point} {f : Early} {d : ℕ} {l : Noting} {cs : List Cmd} {pss : List (List Point)} {fs : List Early} {ds : List ℕ} {ls : List Noting}
+pub ◌and◌ : {a : Cmd} {ps : List Point} {f : Early} {d : ℕ} {l : Noting} {cs : List Cmd} {pss : List (List Point)}
+    {fs : List Early} {ds : List ℕ} {ls : List Noting}
     → Made a ps f d l → Row cs pss fs ds ls → Row (a ∷ cs) (ps ∷ pss) (f ∷ fs) (d ∷ ds) (l ∷ ls)
 h and more = record {
   marks = rw (h.marks, more.marks) refl;
@@ -126,9 +138,14 @@ seq {cs} h = record {
 }
 
 pub pressure_is : {a : Cmd} {ps : List Point} {f : Early} {d : ℕ} {l : Noting} → Made a ps f d l → (args : ℕ) (rets : List ℕ)
-    → pressure a args rets ≡ most_covering (with_ends args (is_known rets) (λ x. f x (is_known rets x)) ps) (all_noted rets (l (numbers args))) + d
+    → pressure a args rets ≡ most_covering (with_ends args (is_known rets) (λ x. f x (is_known rets x)) ps)
+    (all_noted rets (l (numbers args))) + d
 pressure_is {a} {ps} {f} {d} {l} h args rets =
-    ap (λ (p : List Point). most_covering (with_ends args (is_known rets) (λ x. early a x (is_known rets x)) p) (all_noted rets (cmd_locals a (numbers args))) + cmd_depth a) h.marks
-    ∙ ap (λ (r : Early). most_covering (with_ends args (is_known rets) (λ x. r x (is_known rets x)) ps) (all_noted rets (cmd_locals a (numbers args))) + cmd_depth a) h.reads
-    ∙ ap (λ (r : Noting). most_covering (with_ends args (is_known rets) (λ x. f x (is_known rets x)) ps) (all_noted rets (r (numbers args))) + cmd_depth a) h.notes
-    ∙ ap (λ (n : ℕ). most_covering (with_ends args (is_known rets) (λ x. f x (is_known rets x)) ps) (all_noted rets (l (numbers args))) + n) h.deep
+    ap (λ (p : List Point). most_covering (with_ends args (is_known rets) (λ x. early a x (is_known rets x)) p)
+    (all_noted rets (cmd_locals a (numbers args))) + cmd_depth a) h.marks
+    ∙ ap (λ (r : Early). most_covering (with_ends args (is_known rets) (λ x. r x (is_known rets x)) ps)
+    (all_noted rets (cmd_locals a (numbers args))) + cmd_depth a) h.reads
+    ∙ ap (λ (r : Noting). most_covering (with_ends args (is_known rets) (λ x. f x (is_known rets x)) ps)
+    (all_noted rets (r (numbers args))) + cmd_depth a) h.notes
+    ∙ ap (λ (n : ℕ). most_covering (with_ends args (is_known rets) (λ x. f x (is_known rets x)) ps)
+    (all_noted rets (l (numbers args))) + n) h.deep

@@ -22,22 +22,26 @@ chooses = Seq (Set 3 (Bin Add (Var 0) (Var 1)) ∷ Cond (Var 3) (Seq []) (Set 2 
 
 choosing : pressure chooses 2 (4 ∷ []) ≡ 6
 choosing =
-    pressure_is (seq (set 3 (bin Add (var 0) (var 1)) and (cond (var 3) (seq no_more) (set 2 (lit 5)) and (set 4 (var 2) and no_more)))) 2 (4 ∷ [])
+    pressure_is (seq (set 3 (bin Add (var 0) (var 1))
+    and (cond (var 3) (seq no_more) (set 2 (lit 5)) and (set 4 (var 2) and no_more)))) 2 (4 ∷ [])
     ∙ refl
 
--- a hash of bytes: v0, their address, from 0 to 8; v1, their number, from 0 to 4; v2, the hash, from 1 to 9; v4, the place, from 3
+-- a hash of bytes: v0, their address, from 0 to 8; v1, their number,
+-- from 0 to 4; v2, the hash, from 1 to 9; v4, the place, from 3
 -- to 8; v5, the end, from 4 to 8; v3, a byte, from 5 to 8, as long as the loop goes: five at once from 4 to 8, and depth 3
 abbrev hashes : Cmd
 hashes =
     Seq (Set 2 (Lit 2166136261) ∷ Set 2 (Var 2) ∷ Set 4 (Lit 0) ∷ Set 5 (Var 1)
     ∷ While (Bin Ltu (Var 4) (Var 5))
-    (Seq (Set 3 (Load One (Bin Add (Var 0) (Var 4))) ∷ Set 2 (Bin Mul (Bin Xor (Var 2) (Var 3)) (Lit 16777619)) ∷ Set 4 (Bin Add (Var 4) (Lit 1)) ∷ []))
+    (Seq (Set 3 (Load One (Bin Add (Var 0) (Var 4))) ∷ Set 2 (Bin Mul (Bin Xor (Var 2) (Var 3)) (Lit 16777619))
+    ∷ Set 4 (Bin Add (Var 4) (Lit 1)) ∷ []))
     ∷ [])
 
 hashing : pressure hashes 2 (2 ∷ []) ≡ 8
 hashing =
     pressure_is (seq (set 2 (lit 2166136261) and (set 2 (var 2) and (set 4 (lit 0) and (set 5 (var 1)
     and (loop (bin Ltu (var 4) (var 5))
-    (seq (set 3 (load One (bin Add (var 0) (var 4))) and (set 2 (bin Mul (bin Xor (var 2) (var 3)) (lit 16777619)) and (set 4 (bin Add (var 4) (lit 1)) and no_more))))
+    (seq (set 3 (load One (bin Add (var 0) (var 4)))
+    and (set 2 (bin Mul (bin Xor (var 2) (var 3)) (lit 16777619)) and (set 4 (bin Add (var 4) (lit 1)) and no_more))))
     and no_more)))))) 2 (2 ∷ [])
     ∙ refl

@@ -1,6 +1,7 @@
 -- Intervals over the points of a piece of code, as linear-scan register allocation takes them (Poletto and Sarkar, Linear Scan
 -- Register Allocation, TOPLAS 21(5), 1999): one for each variable, from the first point that it is marked at to the last.
-use Rattle.std.specs.Prelude.{ℕ, zero, suc, ◌+◌, Bool, false, ◌||◌, ◌&&◌, nat_le, nat_lt, List, [], ◌∷◌, ◌++◌, length, map, if◌then◌else◌}
+use Rattle.std.specs.Prelude.{ℕ, zero, suc, ◌+◌, Bool, false, ◌||◌, ◌&&◌, nat_le, nat_lt, List, [], ◌∷◌, ◌++◌, length, map}
+use Rattle.std.specs.Prelude.{if◌then◌else◌}
 use Rattle.rup_base.specs.Gather.{greatest}
 
 -- a point: the variables that are marked there, which are those that occur there and those whose interval it is made to reach

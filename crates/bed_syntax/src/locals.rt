@@ -1,6 +1,7 @@
 //! The list of the distinct locals of a command.
 ghost use Rattle.std.specs.Prelude.{◌≡◌, ◌+◌, ◌^◌, ◌<◌, ◌≤◌, OnOk, IfOk, length, map, sum};
-ghost use Rattle.bed_syntax.specs.Shape.{expr_size, cmd_size, is_known, noted, all_noted, expr_locals, cmd_locals, in_turn, numbers, locals_of};
+ghost use Rattle.bed_syntax.specs.Shape.{expr_size, cmd_size, is_known, noted, all_noted, expr_locals, cmd_locals, in_turn};
+ghost use Rattle.bed_syntax.specs.Shape.{numbers, locals_of};
 
 use crate::command::Cmd;
 use crate::expression::BExpr;

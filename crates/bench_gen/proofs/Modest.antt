@@ -1,5 +1,6 @@
 -- The generated statements are formed and spellable, and within the limits.
-use Rattle.std.proofs.Common.{◌≡◌, refl, ◌∙◌, subst, arith, ℕ, zero, suc, ◌+◌, ◌%◌, ◌<◌, ◌≤◌, sum, nat_eq, Bool, true, false, List, [], ◌∷◌, ◌++◌, map, if◌then◌else◌}
+use Rattle.std.proofs.Common.{◌≡◌, refl, ◌∙◌, subst, arith, ℕ, zero, suc, ◌+◌, ◌%◌, ◌<◌, ◌≤◌, sum, nat_eq, Bool, true, false}
+use Rattle.std.proofs.Common.{List, [], ◌∷◌, ◌++◌, map, if◌then◌else◌}
 use Rattle.std.proofs.Math.Nat.{max-le}
 use Rattle.std.specs.List.{range_with_len}
 use Rattle.std.proofs.lemmas.List.Sums.{sum_by-cons}
@@ -7,7 +8,8 @@ use Rattle.rup_base.specs.Gather.{all_true, greatest}
 use Rattle.rup_base.specs.Name.{is_name}
 use Rattle.model_syntax.specs.Formed.{expr_formed, expr_formed_step, stmt_formed, stmt_formed_step}
 use Rattle.model_syntax.specs.Kinds.{is_word}
-use Rattle.model_syntax.specs.Limits.{expr_depth, expr_depth_step, expr_tables, expr_tables_step, stmt_count, stmt_count_step, stmt_depth, stmt_depth_step, stmt_blocks, stmt_blocks_step, stmt_tables, stmt_tables_step}
+use Rattle.model_syntax.specs.Limits.{expr_depth, expr_depth_step, expr_tables, expr_tables_step, stmt_count, stmt_count_step}
+use Rattle.model_syntax.specs.Limits.{stmt_depth, stmt_depth_step, stmt_blocks, stmt_blocks_step, stmt_tables, stmt_tables_step}
 use Rattle.model_syntax.specs.Names.{Name}
 use Rattle.model_syntax.specs.Spelling.{expr_spellable, expr_spellable_step, stmt_spellable, stmt_spellable_step}
 use Rattle.model_syntax.specs.declared.expr.Expr.{Expr}
@@ -17,7 +19,8 @@ use Rattle.model_syntax.specs.declared.expr.Op.TheVariants as op
 use Rattle.model_syntax.specs.declared.stmt.Stmt.{Stmt}
 use Rattle.model_syntax.specs.declared.stmt.Stmt.TheOpen as s
 use Rattle.model_syntax.specs.declared.stmt.Stmt.TheVariants as w
-use Rattle.bench_gen.specs.Generator.{next, after_four, drawn, scalar, word_name, array_name, element_name, var, first, sum as add, mix, shift, hash, of_kind, statement, statements}
+use Rattle.bench_gen.specs.Generator.{next, after_four, drawn, scalar, word_name, array_name, element_name, var, first}
+use Rattle.bench_gen.specs.Generator.{sum as add, mix, shift, hash, of_kind, statement, statements}
 use Rattle.bench_gen.proofs.Nodes.{below_eight, at_lit, at_var, at_bin, at_word, at_stmt}
 
 -- Expressions.
@@ -62,7 +65,12 @@ word_modest d p is = record {
 }
 
 deeper : (d e : ℕ) (p : Expr) → d ≤ e → Modest d p → Modest e p
-deeper d e p more is = record { formed = is.formed; spelled = is.spelled; depth = omega (arith, more, is.depth); tables = is.tables }
+deeper d e p more is = record {
+  formed = is.formed;
+  spelled = is.spelled;
+  depth = omega (arith, more, is.depth);
+  tables = is.tables;
+}
 
 -- Statements.
 
@@ -85,7 +93,8 @@ let_single x p is of = record {
   tables = at_stmt ℕ stmt_tables_step (s.Let x p) _ (w.rolls-Let x p) ∙ of.tables;
 }
 
-fold_single : (t a x : Name) (p : Expr) → is_name t ≡ true → is_name a ≡ true → is_name x ≡ true → Modest 64 p → Single (w.Fold t a x p)
+fold_single : (t a x : Name) (p : Expr) → is_name t ≡ true → is_name a ≡ true → is_name x ≡ true → Modest 64 p
+    → Single (w.Fold t a x p)
 fold_single t a x p one two three of = record {
   formed = at_stmt Bool stmt_formed_step (s.Fold t a x p) _ (w.rolls-Fold t a x p) ∙ rw (one, two, three, of.formed) refl;
   spelled = at_stmt Bool stmt_spellable_step (s.Fold t a x p) _ (w.rolls-Fold t a x p) ∙ of.spelled;
@@ -119,17 +128,20 @@ sum_single a b c i j k =
 mix_single : (a b c : ℕ) → a < 8 → b < 8 → c < 8 → Single (mix a b c)
 mix_single a b c i j k =
     let_single (scalar a) _ (scalar_name a i)
-    (deeper 3 64 _ (omega arith) (bin_modest op.Xor 2 _ _ (deeper 1 2 _ (omega arith) (var_is b j)) (bin_modest op.Mul 1 _ _ (var_is c k) (lit_modest 31 refl))))
+    (deeper 3 64 _ (omega arith) (bin_modest op.Xor 2 _ _ (deeper 1 2 _ (omega arith) (var_is b j))
+    (bin_modest op.Mul 1 _ _ (var_is c k) (lit_modest 31 refl))))
 
 shift_single : (a b c : ℕ) → a < 8 → b < 8 → c < 8 → Single (shift a b c)
 shift_single a b c i j k =
     let_single (scalar a) _ (scalar_name a i)
-    (deeper 3 64 _ (omega arith) (bin_modest op.Sub 2 _ _ (bin_modest op.Shr 1 _ _ (var_is b j) (lit_modest 3 refl)) (deeper 1 2 _ (omega arith) (var_is c k))))
+    (deeper 3 64 _ (omega arith) (bin_modest op.Sub 2 _ _ (bin_modest op.Shr 1 _ _ (var_is b j) (lit_modest 3 refl))
+    (deeper 1 2 _ (omega arith) (var_is c k))))
 
 hash_single : (a : ℕ) → a < 8 → Single (hash a)
 hash_single a i =
     fold_single (scalar a) array_name element_name _ (scalar_name a i) refl refl
-    (deeper 3 64 _ (omega arith) (bin_modest op.Add 2 _ _ (bin_modest op.Mul 1 _ _ (var_is a i) (lit_modest 31 refl)) (word_modest 1 _ (var_modest element_name refl))))
+    (deeper 3 64 _ (omega arith) (bin_modest op.Add 2 _ _ (bin_modest op.Mul 1 _ _ (var_is a i) (lit_modest 31 refl))
+    (word_modest 1 _ (var_modest element_name refl))))
 
 kind_single : (kind a b c : ℕ) → a < 8 → b < 8 → c < 8 → Single (of_kind kind a b c)
 kind_single kind a b c i j k = by (nat_eq kind 0) (nat_eq kind 1) (nat_eq kind 2)
@@ -173,10 +185,12 @@ pub drawn_singles : (count state : ℕ) → Singles count (statements count stat
 drawn_singles zero state = no_singles
 drawn_singles (suc count) state =
     subst (λ z. Singles z (statements (suc count) state)) (omega arith)
-    (one_more count (statement state) (statements count (after_four state)) (statement_single state) (drawn_singles count (after_four state)))
+    (one_more count (statement state) (statements count (after_four state)) (statement_single state)
+    (drawn_singles count (after_four state)))
 
 -- n of the eight from k on, and m behind them
-pub first_singles : (n k m all : ℕ) (xs : List Stmt) → k + n ≤ 8 → all ≡ n + m → Singles m xs → Singles all (map first (range_with_len k n) ++ xs)
+pub first_singles : (n k m all : ℕ) (xs : List Stmt) → k + n ≤ 8 → all ≡ n + m → Singles m xs
+    → Singles all (map first (range_with_len k n) ++ xs)
 first_singles zero k m all xs few is more = subst (λ z. Singles z xs) (omega (arith, is)) more
 first_singles (suc n) k m all xs few is more =
     let rest = first_singles n (k + 1) m (n + m) xs (omega (arith, few)) refl more in

@@ -1,5 +1,6 @@
 -- The generated statements are well typed: each keeps eight words, the word and the array in scope.
-use Rattle.std.proofs.Common.{◌≡◌, refl, ◌∙◌, ap, arith, ℕ, zero, suc, ◌%◌, ◌<◌, nat_eq, Bool, true, false, List, ◌∷◌, map, Some, None, Ok, if◌then◌else◌}
+use Rattle.std.proofs.Common.{◌≡◌, refl, ◌∙◌, ap, arith, ℕ, zero, suc, ◌%◌, ◌<◌, nat_eq, Bool, true, false, List, ◌∷◌, map, Some}
+use Rattle.std.proofs.Common.{None, Ok, if◌then◌else◌}
 use Rattle.model_syntax.specs.Limits as limits
 use Rattle.model_syntax.specs.Names.{Name, same}
 use Rattle.model_syntax.specs.Scope.{Scope, look_up, bind, scalar_may_take}
@@ -14,7 +15,8 @@ use Rattle.model_syntax.specs.declared.stmt.Stmt.{Stmt}
 use Rattle.model_syntax.specs.declared.stmt.Stmt.TheOpen as s
 use Rattle.model_syntax.specs.declared.stmt.Stmt.TheVariants as w
 use Rattle.model_syntax.proofs.laws.Bindings.{up_here, up_else}
-use Rattle.bench_gen.specs.Generator.{next, after_four, drawn, scalar, word_name, array_name, length_name, element_name, var, first, sum, mix, shift, hash, of_kind, statement, statements}
+use Rattle.bench_gen.specs.Generator.{next, after_four, drawn, scalar, word_name, array_name, length_name, element_name, var}
+use Rattle.bench_gen.specs.Generator.{first, sum, mix, shift, hash, of_kind, statement, statements}
 use Rattle.bench_gen.proofs.Nodes.{IsWord, lit_typed, var_typed, bin_typed, word_typed, at_stmt}
 
 -- what is in scope at each drawn statement
@@ -32,7 +34,8 @@ bound_stands c a is = record {
   scalars = λ k few. by k few (same (scalar a) (scalar k)) refl;
 }
   where
-    by : (k : ℕ) → k < 8 → (here : Bool) → same (scalar a) (scalar k) ≡ here → look_up (bind (scalar a) (One Word) c) (scalar k) ≡ Some (One Word)
+    by : (k : ℕ) → k < 8 → (here : Bool) → same (scalar a) (scalar k) ≡ here → look_up (bind (scalar a) (One Word) c) (scalar k)
+        ≡ Some (One Word)
     by k few true here = up_here c (scalar a) (scalar k) (One Word) here
     by k few false here = up_else c (scalar a) (scalar k) (One Word) here ∙ is.scalars k few
 
@@ -40,12 +43,14 @@ bound_stands c a is = record {
 abbrev pub Leads : Stmt → Scope → Scope → Type 0
 Leads x c d = (k : ℕ) → stmt x (k, c) ≡ Ok (limits.next k, d)
 
-let_leads : (x : Name) (p : Expr) (c : Scope) → scalar_may_take (look_up c x) ≡ Ok tt → IsWord p c → Leads (w.Let x p) c (bind x (One Word) c)
+let_leads : (x : Name) (p : Expr) (c : Scope) → scalar_may_take (look_up c x) ≡ Ok tt → IsWord p c
+    → Leads (w.Let x p) c (bind x (One Word) c)
 let_leads x p c may is k =
     ap (λ (b : Block). b (k, c)) (at_stmt Block stmt_step (s.Let x p) _ (w.rolls-Let x p)) ∙ rw (may, is) refl
 
 -- the statements that bind the scalars
-pub first_leads : (k : ℕ) (c : Scope) → look_up c word_name ≡ Some (One Word) → scalar_may_take (look_up c (scalar k)) ≡ Ok tt → Leads (first k) c (bind (scalar k) (One Word) c)
+pub first_leads : (k : ℕ) (c : Scope) → look_up c word_name ≡ Some (One Word) → scalar_may_take (look_up c (scalar k)) ≡ Ok tt
+    → Leads (first k) c (bind (scalar k) (One Word) c)
 first_leads k c word may = let_leads (scalar k) _ c may (bin_typed op.Add _ _ c (var_typed word_name Word c word) (lit_typed k c))
 
 module _ (c : Scope) (is : Stands c) where
@@ -59,15 +64,18 @@ module _ (c : Scope) (is : Stands c) where
   sum_leads a b d i j k = scalar_leads a _ i (bin_typed op.Add _ _ c (var_word b j) (var_word d k))
 
   mix_leads : (a b d : ℕ) → a < 8 → b < 8 → d < 8 → Leads (mix a b d) c (bind (scalar a) (One Word) c)
-  mix_leads a b d i j k = scalar_leads a _ i (bin_typed op.Xor _ _ c (var_word b j) (bin_typed op.Mul _ _ c (var_word d k) (lit_typed 31 c)))
+  mix_leads a b d i j k = scalar_leads a _ i
+      (bin_typed op.Xor _ _ c (var_word b j) (bin_typed op.Mul _ _ c (var_word d k) (lit_typed 31 c)))
 
   shift_leads : (a b d : ℕ) → a < 8 → b < 8 → d < 8 → Leads (shift a b d) c (bind (scalar a) (One Word) c)
-  shift_leads a b d i j k = scalar_leads a _ i (bin_typed op.Sub _ _ c (bin_typed op.Shr _ _ c (var_word b j) (lit_typed 3 c)) (var_word d k))
+  shift_leads a b d i j k = scalar_leads a _ i
+      (bin_typed op.Sub _ _ c (bin_typed op.Shr _ _ c (var_word b j) (lit_typed 3 c)) (var_word d k))
 
   -- a fold leaves the scope
   hash_leads : (a : ℕ) → a < 8 → Leads (hash a) c c
   hash_leads a few k =
-      ap (λ (b : Block). b (k, c)) (at_stmt Block stmt_step (s.Fold (scalar a) array_name element_name value) _ (w.rolls-Fold (scalar a) array_name element_name value))
+      ap (λ (b : Block). b (k, c)) (at_stmt Block stmt_step (s.Fold (scalar a) array_name element_name value) _
+      (w.rolls-Fold (scalar a) array_name element_name value))
       ∙ rw (is.scalars a few, is.array, is.element, inside) refl
     where
       value : Expr
@@ -83,7 +91,8 @@ module _ (c : Scope) (is : Stands c) where
       near = up_here c element_name element_name (One Byte) refl
 
       inside : IsWord value inner
-      inside = bin_typed op.Add _ _ inner (bin_typed op.Mul _ _ inner (var_typed (scalar a) Word inner far) (lit_typed 31 inner)) (word_typed _ inner (var_typed element_name Byte inner near))
+      inside = bin_typed op.Add _ _ inner (bin_typed op.Mul _ _ inner (var_typed (scalar a) Word inner far) (lit_typed 31 inner))
+          (word_typed _ inner (var_typed element_name Byte inner near))
 
   -- the scope after a statement
   abbrev pub LeadsOn : Stmt → Type 0
@@ -121,4 +130,5 @@ pub drawn_end : (count state : ℕ) (c : Scope) → Stands c → Ends (map stmt 
 drawn_end zero state c is = record { scope = c; stands = is; leads = λ k. (k, refl) }
 drawn_end (suc count) state c is =
     let here = statement_leads c is state in
-    first_of (statement state) (map stmt (statements count (after_four state))) c here.0 here.1.1 (drawn_end count (after_four state) here.0 here.1.0)
+    first_of (statement state) (map stmt (statements count (after_four state))) c here.0 here.1.1
+    (drawn_end count (after_four state) here.0 here.1.0)

@@ -1,5 +1,7 @@
 -- Polynomials of degree 2 over eight symbols, whose coefficients are whole numbers: bounds of the steps of a call.
-use Rattle.std.specs.Prelude.{ℕ, zero, suc, max, map, Result, Ok, Err, ℤ, pos, nat_abs, ◌+◌, ◌-◌, ◌*◌, ◌/◌, ◌^◌, ◌<◌, ◌≤◌, Bool, true, false, ◌&&◌, List, [], ◌∷◌, ◌++◌, Option, Some, None, nat_eq, nat_lt, nat_le, slice_index_or, if◌then◌else◌, ⊤}
+use Rattle.std.specs.Prelude.{ℕ, zero, suc, max, map, Result, Ok, Err, ℤ, pos, nat_abs, ◌+◌, ◌-◌, ◌*◌, ◌/◌, ◌^◌, ◌<◌, ◌≤◌, Bool}
+use Rattle.std.specs.Prelude.{true, false, ◌&&◌, List, [], ◌∷◌, ◌++◌, Option, Some, None, nat_eq, nat_lt, nat_le, slice_index_or}
+use Rattle.std.specs.Prelude.{if◌then◌else◌, ⊤}
 use Rattle.std.specs.Int.Signed.{le_z}
 use Rattle.side_certs.specs.LinearForm.{LinearForm}
 use Rattle.side_certs.specs.LinearForm as linear
@@ -32,7 +34,8 @@ AreSymbols count (Some a) (Some b) = (a ≤ b) × (b < count)
 abbrev pub BoundFrom : ℕ → ℕ → List Term → Type 0
 BoundFrom least count [] = ⊤
 BoundFrom least count (t ∷ ts) =
-    AreSymbols count t.first t.second × (least ≤ place_of t.first t.second) × (1 ≤ t.coefficient) × (t.coefficient ≤ greatest_coefficient)
+    AreSymbols count t.first t.second × (least ≤ place_of t.first t.second) × (1 ≤ t.coefficient)
+    × (t.coefficient ≤ greatest_coefficient)
     × BoundFrom (place_of t.first t.second + 1) count ts
 
 abbrev pub IsSmall : Term → Type 0
@@ -117,7 +120,8 @@ coefficient_at p place = coefficient (symbols_at place).0 (symbols_at place).1 p
 unfoldable pub listed : (ℕ → ℕ) → ℕ → List Term
 listed numbers zero = []
 listed numbers (suc place) =
-    listed numbers place ++ (if nat_eq (numbers place) 0 then [] else make (symbols_at place).0 (symbols_at place).1 (numbers place) ∷ [])
+    listed numbers place ++ (if nat_eq (numbers place) 0 then []
+    else make (symbols_at place).0 (symbols_at place).1 (numbers place) ∷ [])
 
 -- the greatest of the first numbers, 0 where there is none
 unfoldable pub greatest : (ℕ → ℕ) → ℕ → ℕ

@@ -12,7 +12,8 @@ impl Poly {
     /// The sum. An error exactly where it passes a limit.
     pub fn add(&self, other: &Poly) -> Result<Poly, Wide>
         ensures sum { result ≡ polynomial.within (polynomial.sum self.now other.now) }
-        ensures value { IfOk result (λ sum. (values : List ℕ) → polynomial.at values sum ≡ polynomial.at values self.now + polynomial.at values other.now) }
+        ensures value { IfOk result (λ sum. (values : List ℕ)
+            → polynomial.at values sum ≡ polynomial.at values self.now + polynomial.at values other.now) }
     {
         self.is_bounded();
         other.is_bounded();
@@ -22,7 +23,8 @@ impl Poly {
     /// The greater coefficient of each product.
     pub fn max(&self, other: &Poly) -> Poly
         ensures greater { result ≡ polynomial.listed (polynomial.greater self.now other.now) 45 }
-        ensures value { (values : List ℕ) → (polynomial.at values self.now ≤ polynomial.at values result) × (polynomial.at values other.now ≤ polynomial.at values result) }
+        ensures value { (values : List ℕ) → (polynomial.at values self.now ≤ polynomial.at values result)
+            × (polynomial.at values other.now ≤ polynomial.at values result) }
     {
         self.is_bounded();
         other.is_bounded();
@@ -34,7 +36,9 @@ impl Poly {
     /// are taken.
     pub fn scale(&self, t: &Form) -> Result<Poly, Wide>
         ensures product { result ≡ polynomial.scaled self.now t.now }
-        ensures value { IfOk result (λ product. polynomial.is_entry_form t.now ≡ true → (values : List ℕ) → pos (polynomial.at values product) ≡ pos (polynomial.at values self.now) *ℤ linear.value_at (λ s. slice_index_or values s 0) t.now) }
+        ensures value { IfOk result (λ product. polynomial.is_entry_form t.now ≡ true → (values : List ℕ)
+            → pos (polynomial.at values product)
+            ≡ pos (polynomial.at values self.now) *ℤ linear.value_at (λ s. slice_index_or values s 0) t.now) }
     {
         self.is_bounded();
         let numbers = self.products(t);

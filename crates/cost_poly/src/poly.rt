@@ -1,6 +1,7 @@
 //! A polynomial, as its terms whose coefficient isn't 0, in the order constant, linear terms, products by
 //! first and second symbol.
-ghost use Rattle.std.specs.Prelude.{◌≡◌, true, if◌then◌else◌, [], ◌∷◌, ◌++◌, ◌+◌, ◌<◌, ◌≤◌, ◌↔◌, ◌*◌, ◌^◌, List, ℕ, length, IsTrue};
+ghost use Rattle.std.specs.Prelude.{◌≡◌, true, if◌then◌else◌, [], ◌∷◌, ◌++◌, ◌+◌, ◌<◌, ◌≤◌, ◌↔◌, ◌*◌, ◌^◌, List, ℕ, length};
+ghost use Rattle.std.specs.Prelude.{IsTrue};
 ghost use Rattle.std.specs.List.{AllByRecursion};
 ghost use Rattle.cost_poly.specs.Polynomial as polynomial;
 
@@ -32,7 +33,8 @@ impl Model for Poly {
 
     ghost view = { λ p. take p.count p.slots };
 
-    ghost invariant = { λ p. (p.count ≤ 45) × (p.next ≡ next_place 0 (take p.count p.slots)) × BoundFrom 0 8 (take p.count p.slots) };
+    ghost invariant = { λ p. (p.count ≤ 45) × (p.next ≡ next_place 0 (take p.count p.slots))
+        × BoundFrom 0 8 (take p.count p.slots) };
 }
 
 impl Poly {
@@ -217,7 +219,8 @@ fn symbol_value(values: &[u32], symbol: Option<u32>) -> u32
 /// The value of one term.
 fn value(term: &Term, values: &[u32]) -> u128
     requires { term.now.coefficient ≤ 2 ^ 40 }
-    ensures value { result ≡ term.now.coefficient * polynomial.value_of values.now term.now.first * polynomial.value_of values.now term.now.second }
+    ensures value { result ≡ term.now.coefficient * polynomial.value_of values.now term.now.first * polynomial.value_of values.now
+        term.now.second }
     ensures bound { result < 2 ^ 104 }
 {
     let first = symbol_value(values, term.first);

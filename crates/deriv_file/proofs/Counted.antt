@@ -13,7 +13,8 @@ pub items_count : (vs : List Value) → items_len (items_view vs) ≡ length vs
 items_count = items_len-items_view
 
 -- so an array whose items fit 32 bits is seen as a list of such a length
-pub countable_length : (nodes : Data) (vs : List Value) → IsCountable nodes → as_array nodes ≡ Some (items_view vs) → length vs < 2 ^ 32
+pub countable_length : (nodes : Data) (vs : List Value) → IsCountable nodes → as_array nodes ≡ Some (items_view vs)
+    → length vs < 2 ^ 32
 countable_length nodes vs fits is = subst (λ (n : ℕ). n < 2 ^ 32) (items_len-items_view vs) (fits (items_view vs) is)
 
 -- the nodes in a text of at most 2^24 bytes

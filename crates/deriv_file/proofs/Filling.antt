@@ -1,5 +1,6 @@
 -- Lists of nodes that fill the open places, and the entries of a file that are such lists.
-use Rattle.std.proofs.Common.{◌≡◌, ℕ, ◌+◌, Bool, true, false, ◌==◌, List, [], ◌∷◌, ◌++◌, length, Option, Some, None, option_map, option_and_then, Result, Ok, Err, if◌then◌else◌, refl, sym, ◌∙◌, ap, subst, eqb-true, arith}
+use Rattle.std.proofs.Common.{◌≡◌, ℕ, ◌+◌, Bool, true, false, ◌==◌, List, [], ◌∷◌, ◌++◌, length, Option, Some, None, option_map}
+use Rattle.std.proofs.Common.{option_and_then, Result, Ok, Err, if◌then◌else◌, refl, sym, ◌∙◌, ap, subst, eqb-true, arith}
 use Rattle.std.proofs.lemmas.Option.{same_Some}
 use Rattle.serde_json.specs.Data.{Data, Items, no_items, item}
 use Rattle.serde_json.specs.Find.{as_array}
@@ -29,7 +30,8 @@ pub record Came {A B : Type 0} (first : Option A) (next : A → Option B) (b : B
   pub is : first ≡ Some value
   pub gives : next value ≡ Some b
 
-pub came : {A B : Type 0} (first : Option A) (next : A → Option B) (b : B) → option_and_then next first ≡ Some b → Came first next b
+pub came : {A B : Type 0} (first : Option A) (next : A → Option B) (b : B) → option_and_then next first ≡ Some b
+    → Came first next b
 came None next b h = absurd (cc)
 came (Some a) next b h = record { value = a; is = refl; gives = h }
 
@@ -47,7 +49,8 @@ record After {A B : Type 0} (first : Result A Refusal) (next : A → Result B Re
   is : first ≡ Ok value
   gives : next value ≡ Ok b
 
-after : {A B : Type 0} (first : Result A Refusal) (next : A → Result B Refusal) (b : B) → and_then first next ≡ Ok b → After first next b
+after : {A B : Type 0} (first : Result A Refusal) (next : A → Result B Refusal) (b : B) → and_then first next ≡ Ok b
+    → After first next b
 after (Err r) next b h = absurd (cc)
 after (Ok a) next b h = record { value = a; is = refl; gives = h }
 
@@ -73,7 +76,8 @@ counts_length k no_items ns h =
     ap (λ (ms : List ℕ). length ms) (sym parts.1) ∙ sym (eqb-true k 0 parts.0)
 counts_length k (item d no_items) ns h =
     let read = came (option_and_then counts_of (as_array d)) (λ (ms : List ℕ). only_if (length ms == k) ms) ns
-    (unless_none (k == 0) (option_and_then (λ (ms : List ℕ). only_if (length ms == k) ms) (option_and_then counts_of (as_array d))) ns h) in
+    (unless_none (k == 0) (option_and_then (λ (ms : List ℕ). only_if (length ms == k) ms)
+    (option_and_then counts_of (as_array d))) ns h) in
     let parts = only_if_is (length read.value == k) read.value ns read.gives in
     ap (λ (ms : List ℕ). length ms) (sym parts.1) ∙ eqb-true (length read.value) k parts.0
 counts_length k (item d (item e ds)) ns h = absurd (cc)
@@ -84,8 +88,10 @@ items_counts (item a no_items) n h = absurd (cc)
 items_counts (item a (item b no_items)) n h = absurd (cc)
 items_counts (item a (item b (item c rest))) n h =
     let step = came (step_of a b c) (λ (s : Step). with_counts s rest) n h in
-    let counts = mapped (block_counts (blocks step.value.rule) rest) (λ (ns : List ℕ). record { step = step.value; counts = ns }) n step.gives in
-    subst (λ (m : Listed). length m.counts ≡ blocks m.step.rule) counts.gives (counts_length (blocks step.value.rule) rest counts.value counts.is)
+    let counts = mapped (block_counts (blocks step.value.rule) rest) (λ (ns : List ℕ). record { step = step.value; counts = ns })
+    n step.gives in
+    subst (λ (m : Listed). length m.counts ≡ blocks m.step.rule) counts.gives
+    (counts_length (blocks step.value.rule) rest counts.value counts.is)
 
 node_counts : (d : Data) (n : Listed) → node_of d ≡ Some n → length n.counts ≡ blocks n.step.rule
 node_counts d n h =
@@ -98,7 +104,8 @@ taken_is : (at : ℕ) (test : Bool) (m n : Listed) → or_fault at (only_if test
 taken_is at true m n h = (refl, ok_same m n h)
 taken_is at false m n h = absurd (cc)
 
-admitted_is : (at : ℕ) (p : Place) (o : Option Listed) (n : Listed) → or_fault at (admitted p o) ≡ Ok n → (o ≡ Some n) × (admits p n.step.rule ≡ true)
+admitted_is : (at : ℕ) (p : Place) (o : Option Listed) (n : Listed) → or_fault at (admitted p o) ≡ Ok n
+    → (o ≡ Some n) × (admits p n.step.rule ≡ true)
 admitted_is at p None n h = absurd (cc)
 admitted_is at p (Some m) n h =
     let parts = taken_is at (admits p m.step.rule) m n h in
@@ -118,8 +125,10 @@ pub record Filled (ds : Items) (ps : List Place) (ns : List Listed) : Type 0 whe
   pub fills : Fills ns ps
 
 one_filled : (d : Data) (ds : Items) (p : Place) (ps : List Place) (n : Listed) (ns : List Listed)
-    → node_of d ≡ Some n → admits p n.step.rule ≡ true → Filled ds (called_for p n ++ ps) ns → Filled (item d ds) (p ∷ ps) (n ∷ ns)
-one_filled d ds p ps n ns node takes rest = record { nodes = rw (node, rest.nodes); fills = (takes, node_counts d n node, rest.fills) }
+    → node_of d ≡ Some n → admits p n.step.rule ≡ true → Filled ds (called_for p n ++ ps) ns
+    → Filled (item d ds) (p ∷ ps) (n ∷ ns)
+one_filled d ds p ps n ns node takes rest =
+    record { nodes = rw (node, rest.nodes); fills = (takes, node_counts d n node, rest.fills) }
 
 pub filled_fills : (total : ℕ) (ds : Items) (at : ℕ) (ps : List Place) (ns : List Listed)
     → at + items_len ds ≡ total → filled total ds at ps ≡ Ok ns → Filled ds ps ns
@@ -130,8 +139,10 @@ filled_fills total no_items at ps ns few h =
     subst (λ (ms : List Listed). Filled no_items ps ms) parts.1 (record { nodes = refl; fills = none })
 filled_fills total (item d ds) at [] ns few h = absurd (cc)
 filled_fills total (item d ds) at (p ∷ ps) ns few h =
-    let one = after (node_at at p d) (λ (n : Listed). and_then (filled total ds (at + 1) (called_for p n ++ ps)) (λ (ms : List Listed). Ok (n ∷ ms))) ns h in
-    let others = after (filled total ds (at + 1) (called_for p one.value ++ ps)) (λ (ms : List Listed). Ok (one.value ∷ ms)) ns one.gives in
+    let one = after (node_at at p d)
+    (λ (n : Listed). and_then (filled total ds (at + 1) (called_for p n ++ ps)) (λ (ms : List Listed). Ok (n ∷ ms))) ns h in
+    let others = after (filled total ds (at + 1) (called_for p one.value ++ ps)) (λ (ms : List Listed). Ok (one.value ∷ ms)) ns
+    one.gives in
     let first = admitted_is at p (node_of d) one.value one.is in
     let rest = filled_fills total ds (at + 1) (called_for p one.value ++ ps) others.value (omega (arith, few)) others.is in
     subst (λ (ms : List Listed). Filled (item d ds) (p ∷ ps) ms) (ok_same (one.value ∷ others.value) ns others.gives)

@@ -26,7 +26,8 @@ quoted_lexed s rest =
     ap (λ (text : List ℕ). lex between (34 ∷ text)) (append_assoc (escape s) (34 ∷ []) rest)
     ∙ ap₂ (λ o lexemes. token (string_token o) ∷ lexemes) (content-escape s rest) (lex-escape s rest)
 
-token_lexed : (t : Token) (rest : List ℕ) → IsPrintable t → (ends t ≡ true → ends_word rest ≡ true) → lex between (token_text t ++ rest) ≡ spelled t ++ lex between rest
+token_lexed : (t : Token) (rest : List ℕ) → IsPrintable t → (ends t ≡ true → ends_word rest ≡ true)
+    → lex between (token_text t ++ rest) ≡ spelled t ++ lex between rest
 unfolding lex word
 token_lexed begin_object rest h ended = refl
 token_lexed end_object rest h ended = refl
@@ -35,13 +36,16 @@ token_lexed end_array rest h ended = refl
 token_lexed (key s) rest h ended = ap (lex between) (append_assoc (quoted s) (58 ∷ []) rest) ∙ quoted_lexed s (58 ∷ rest)
 token_lexed (string s) rest h ended = quoted_lexed s rest
 token_lexed (number s) rest h ended = lex-number s rest h (ended refl)
-token_lexed (boolean true) rest h ended = ap₂ (λ b l. token (cond b (boolean true) bad) ∷ l) (ended refl) (in_word-ended rest (ended refl))
-token_lexed (boolean false) rest h ended = ap₂ (λ b l. token (cond b (boolean false) bad) ∷ l) (ended refl) (in_word-ended rest (ended refl))
+token_lexed (boolean true) rest h ended =
+    ap₂ (λ b l. token (cond b (boolean true) bad) ∷ l) (ended refl) (in_word-ended rest (ended refl))
+token_lexed (boolean false) rest h ended =
+    ap₂ (λ b l. token (cond b (boolean false) bad) ∷ l) (ended refl) (in_word-ended rest (ended refl))
 token_lexed null rest h ended = ap₂ (λ b l. token (cond b null bad) ∷ l) (ended refl) (in_word-ended rest (ended refl))
 token_lexed bad rest h ended = absurd h
 
 -- a word ends where the next token begins, and before a line feed
-ended_before : (later : Bool) (ts : List Token) (more : List ℕ) → ends_word more ≡ true → later ≡ true → ends_word (print_from later ts ++ more) ≡ true
+ended_before : (later : Bool) (ts : List Token) (more : List ℕ) → ends_word more ≡ true → later ≡ true
+    → ends_word (print_from later ts ++ more) ≡ true
 unfolding print_from
 ended_before false ts more h is = absurd (cc)
 ended_before true [] more h is = h
@@ -56,7 +60,8 @@ ended_before true (boolean b ∷ ts) more h is = refl
 ended_before true (null ∷ ts) more h is = refl
 ended_before true (bad ∷ ts) more h is = refl
 
-separator_lexed : (b : Bool) (rest : List ℕ) → lex between (cond b (44 ∷ []) [] ++ rest) ≡ cond b (comma ∷ []) [] ++ lex between rest
+separator_lexed : (b : Bool) (rest : List ℕ) → lex between (cond b (44 ∷ []) [] ++ rest)
+    ≡ cond b (comma ∷ []) [] ++ lex between rest
 unfolding lex
 separator_lexed true rest = refl
 separator_lexed false rest = refl
@@ -72,7 +77,8 @@ unfolding lex print_from ArePrintable
 printed_lexed later [] more h ended none = none
 printed_lexed later (t ∷ ts) more h ended none =
     let rest : List ℕ = print_from (ends t) ts ++ more in
-    ap (lex between) (append_assoc (separator later t) (token_text t ++ print_from (ends t) ts) more ∙ ap (λ (text : List ℕ). separator later t ++ text) (append_assoc (token_text t) (print_from (ends t) ts) more))
+    ap (lex between) (append_assoc (separator later t) (token_text t ++ print_from (ends t) ts) more
+    ∙ ap (λ (text : List ℕ). separator later t ++ text) (append_assoc (token_text t) (print_from (ends t) ts) more))
     ∙ separator_lexed (later && begins t) (token_text t ++ rest)
     ∙ ap (λ (l : List Lexeme). cond (later && begins t) (comma ∷ []) [] ++ l)
     (token_lexed t rest h.0 (ended_before (ends t) ts more ended)

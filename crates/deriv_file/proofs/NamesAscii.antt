@@ -1,5 +1,6 @@
 -- The bytes of a name are UTF-8.
-use Rattle.std.proofs.Common.{◌≡◌, ℕ, ◌<◌, Bool, true, false, ◌||◌, List, [], ◌∷◌, IsTrue, IsUtf8, nat_le, nat_eq, length, leb-true, eqb-true, refl, arith}
+use Rattle.std.proofs.Common.{◌≡◌, ℕ, ◌<◌, Bool, true, false, ◌||◌, List, [], ◌∷◌, IsTrue, IsUtf8, nat_le, nat_eq, length}
+use Rattle.std.proofs.Common.{leb-true, eqb-true, refl, arith}
 use Rattle.std.proofs.lemmas.Bool.{and_parts}
 use Rattle.std.specs.Int.{is_in_range}
 use Rattle.std.specs.List.{list_all, AllByRecursion}
@@ -50,4 +51,5 @@ word_ascii (b ∷ bs) h =
 
 pub name_utf8 : (bytes : List ℕ) → IsTrue (is_name bytes) → IsUtf8 bytes
 name_utf8 bytes h =
-    IsUtf8-from_ascii bytes (IsAscii-from_all bytes (All-from_recursion (λ b. b < 128) bytes (word_ascii bytes (and_parts (nat_le (length bytes) 64) (is_word bytes) h).1)))
+    IsUtf8-from_ascii bytes (IsAscii-from_all bytes
+    (All-from_recursion (λ b. b < 128) bytes (word_ascii bytes (and_parts (nat_le (length bytes) 64) (is_word bytes) h).1)))

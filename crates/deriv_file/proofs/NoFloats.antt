@@ -10,15 +10,18 @@ use Rattle.deriv_tree.specs.declared.tree.Derivation.{Derivation}
 use Rattle.deriv_tree.specs.declared.tree.Step.{Step}
 use Rattle.deriv_tree.specs.declared.listed.Listed.{Listed}
 use Rattle.deriv_tree.specs.Preorder.{preorder}
-use Rattle.deriv_file.specs.FileText.{whole, integer, entry_data, cert_data, step_parts, counts_part, node_data, file_data, array_of}
+use Rattle.deriv_file.specs.FileText.{whole, integer, entry_data, cert_data, step_parts, counts_part, node_data, file_data}
+use Rattle.deriv_file.specs.FileText.{array_of}
 
 neither : (a b : Bool) → a ≡ false → b ≡ false → (a || b) ≡ false
 neither true b h k = absurd (cc)
 neither false b h k = k
 
-items_have_none : {T : Type 0} (f : T → Data) → ((x : T) → has_float (f x) ≡ false) → (xs : List T) → items_have_float (items_of (map f xs)) ≡ false
+items_have_none : {T : Type 0} (f : T → Data) → ((x : T) → has_float (f x) ≡ false) → (xs : List T)
+    → items_have_float (items_of (map f xs)) ≡ false
 items_have_none f none [] = refl
-items_have_none f none (x ∷ xs) = neither (has_float (f x)) (items_have_float (items_of (map f xs))) (none x) (items_have_none f none xs)
+items_have_none f none (x ∷ xs) =
+    neither (has_float (f x)) (items_have_float (items_of (map f xs))) (none x) (items_have_none f none xs)
 
 integer_none : (z : ℤ) → has_float (integer z) ≡ false
 integer_none (pos n) = refl
@@ -30,7 +33,8 @@ entry_none e = refl
 cert_none : (c : Cert) → has_float (cert_data c) ≡ false
 cert_none c = neither (has_float (array_of entry_data c.entries)) false (items_have_none entry_data entry_none c.entries) refl
 
-append_none : (xs ys : List Data) → items_have_float (items_of xs) ≡ false → items_have_float (items_of ys) ≡ false → items_have_float (items_of (xs ++ ys)) ≡ false
+append_none : (xs ys : List Data) → items_have_float (items_of xs) ≡ false → items_have_float (items_of ys) ≡ false
+    → items_have_float (items_of (xs ++ ys)) ≡ false
 append_none [] ys h k = k
 append_none (x ∷ xs) ys h k =
     let parts = or_parts (has_float x) (items_have_float (items_of xs)) h in
@@ -50,4 +54,5 @@ node_none : (n : Listed) → has_float (node_data n) ≡ false
 node_none n = append_none (step_parts n.step) (counts_part n.counts) (step_none n.step) (counts_none n.counts)
 
 pub file_has_none : (d : Derivation) → has_float (file_data d) ≡ false
-file_has_none d = neither (has_float (array_of node_data (preorder d))) false (items_have_none node_data node_none (preorder d)) refl
+file_has_none d = neither (has_float (array_of node_data (preorder d))) false (items_have_none node_data node_none (preorder d))
+    refl

@@ -1,5 +1,7 @@
 -- The value of a node is read as that node.
-use Rattle.std.proofs.Common.{◌≡◌, ℕ, suc, ◌+◌, ◌≤◌, ◌^◌, Bool, true, false, ◌&&◌, ◌==◌, nat_le, nat_lt, nat_abs, ℤ, pos, negsuc, List, [], ◌∷◌, ◌++◌, length, map, sum, Some, refl, subst, le-leb, leb-true, lt-ltb, length-append, eq-eqb, arith}
+use Rattle.std.proofs.Common.{◌≡◌, ℕ, suc, ◌+◌, ◌≤◌, ◌^◌, Bool, true, false, ◌&&◌, ◌==◌, nat_le, nat_lt, nat_abs, ℤ, pos, negsuc}
+use Rattle.std.proofs.Common.{List, [], ◌∷◌, ◌++◌, length, map, sum, Some, refl, subst, le-leb, leb-true, lt-ltb, length-append}
+use Rattle.std.proofs.Common.{eq-eqb, arith}
 use Rattle.std.proofs.lemmas.Bool.{and_parts}
 use Rattle.std.specs.List.{list_all}
 use Rattle.std.proofs.lemmas.List.Sums.{sum_by-cons}
@@ -25,8 +27,10 @@ only_if_true : {A : Type 0} (test : Bool) (a : A) → test ≡ true → only_if 
 only_if_true true a h = refl
 only_if_true false a h = absurd (cc)
 
-pub number_back : (least greatest n : ℕ) → nat_le least n ≡ true → nat_le n greatest ≡ true → number_in least greatest (whole n) ≡ Some n
-number_back least greatest n low high = only_if_true (nat_le least n && nat_le n greatest) n (both_true (nat_le least n) (nat_le n greatest) low high)
+pub number_back : (least greatest n : ℕ) → nat_le least n ≡ true → nat_le n greatest ≡ true
+    → number_in least greatest (whole n) ≡ Some n
+number_back least greatest n low high =
+    only_if_true (nat_le least n && nat_le n greatest) n (both_true (nat_le least n) (nat_le n greatest) low high)
 
 argument_back : (z : ℤ) → argument_in_range z ≡ true → argument_of (integer z) ≡ Some z
 argument_back (pos n) h =
@@ -80,13 +84,15 @@ counts_back (n ∷ ns) h =
 not_zero : (n : ℕ) → (suc n == 0) ≡ false
 not_zero n = grind (arith)
 
-block_counts_here : (ns : List ℕ) → list_all count_in_range ns ≡ true → block_counts (length ns) (items_of (counts_part ns)) ≡ Some ns
+block_counts_here : (ns : List ℕ) → list_all count_in_range ns ≡ true → block_counts (length ns) (items_of (counts_part ns))
+    ≡ Some ns
 block_counts_here [] h = refl
 block_counts_here (n ∷ ns) h =
     rw (not_zero (length ns), counts_back (n ∷ ns) h)
     (only_if_true (length (n ∷ ns) == length (n ∷ ns)) (n ∷ ns) (eq-eqb (length (n ∷ ns)) (length (n ∷ ns)) refl))
 
-node_back : (n : Listed) → node_in_range n ≡ true → length n.counts ≡ blocks n.step.rule → list_all count_in_range n.counts ≡ true → node_of (node_data n) ≡ Some n
+node_back : (n : Listed) → node_in_range n ≡ true → length n.counts ≡ blocks n.step.rule → list_all count_in_range n.counts ≡ true
+    → node_of (node_data n) ≡ Some n
 node_back n h many low =
     let parts = and_parts (list_all argument_in_range n.step.args) (list_all cert_in_range n.step.certs) h in
     let counts : block_counts (blocks n.step.rule) (items_of (counts_part n.counts)) ≡ Some n.counts =
@@ -106,14 +112,20 @@ pub sum_room : (counts : List ℕ) (m : ℕ) → sum counts ≤ m → m ≤ 2000
 sum_room [] m h low = refl
 sum_room (c ∷ cs) m h low =
     let total = sum_by-cons (λ (n : ℕ). n) c cs in
-    both_true (count_in_range c) (list_all count_in_range cs) (le-leb c 20000 (omega (arith, total, h, low))) (sum_room cs m (omega (arith, total, h)) low)
+    both_true (count_in_range c) (list_all count_in_range cs) (le-leb c 20000 (omega (arith, total, h, low)))
+    (sum_room cs m (omega (arith, total, h)) low)
 
 -- the values of nodes that fill places are read as those nodes
-pub nodes_back : (ns : List Listed) (ps : List Place) → Fills ns ps → length ns ≤ 20000 → list_all node_in_range ns ≡ true → all_nodes (items_of (map node_data ns)) ≡ Some ns
+pub nodes_back : (ns : List Listed) (ps : List Place) → Fills ns ps → length ns ≤ 20000 → list_all node_in_range ns ≡ true
+    → all_nodes (items_of (map node_data ns)) ≡ Some ns
 nodes_back [] ps fills few h = refl
 nodes_back (n ∷ ns) [] fills few h = absurd fills
 nodes_back (n ∷ ns) (p ∷ ps) fills few h =
     let parts = and_parts (node_in_range n) (list_all node_in_range ns) h in
     let room = fills_room ns (called_for p n ++ ps) fills.2 in
     let counts : sum n.counts ≤ 20000 = omega (arith, room, length-append (called_for p n) ps, length-called_for p n, few) in
-    rw (node_back n parts.0 fills.1 (sum_room n.counts 20000 counts (omega arith)), nodes_back ns (called_for p n ++ ps) fills.2 (omega (arith, few)) parts.1)
+    rw (
+      node_back n parts.0 fills.1 (sum_room n.counts 20000 counts (omega arith)),
+      nodes_back ns (called_for p n ++ ps) fills.2
+          (omega (arith, few)) parts.1,
+    )

@@ -1,5 +1,6 @@
 -- Stacks of trees, whose last element comes first.
-use Rattle.std.proofs.Common.{◌≡◌, ℕ, zero, suc, ◌+◌, ◌-◌, ◌<◌, ◌≤◌, List, [], ◌∷◌, ◌++◌, length, reverse, take, drop, sym, ◌∙◌, ap, append_assoc, length-append, arith, refl}
+use Rattle.std.proofs.Common.{◌≡◌, ℕ, zero, suc, ◌+◌, ◌-◌, ◌<◌, ◌≤◌, List, [], ◌∷◌, ◌++◌, length, reverse, take, drop, sym, ◌∙◌}
+use Rattle.std.proofs.Common.{ap, append_assoc, length-append, arith, refl}
 use Rattle.std.proofs.lemmas.List.{reverse-append, append-nil}
 use Rattle.deriv_tree.specs.declared.listed.Listed.{Listed}
 use Rattle.deriv_file.specs.Forest.{Trees, grow, grown}
@@ -21,7 +22,8 @@ taken_more count taken more old new x whole few popped pushed was =
     let room : count - length taken ≡ suc (count - length more) = omega (arith, size, few) in
     let step : taken ++ take (count - length taken) (reverse old) ≡ taken ++ (x ∷ take (count - length more) (reverse new)) =
     rw (top, room) in
-    ap (λ xs. xs ++ take (count - length more) (reverse new)) pushed ∙ append_assoc taken (x ∷ []) (take (count - length more) (reverse new)) ∙ sym step ∙ was
+    ap (λ xs. xs ++ take (count - length more) (reverse new)) pushed
+    ∙ append_assoc taken (x ∷ []) (take (count - length more) (reverse new)) ∙ sym step ∙ was
 
 pub left_more : {A : Type 0} (count : ℕ) (taken more old new : List A) (x : A) (whole : List A)
     → length taken < count → old ≡ new ++ x ∷ [] → more ≡ taken ++ x ∷ []
@@ -63,7 +65,8 @@ taken_out {A = A} n taken old whole empty was =
     let same : taken ++ take n (reverse old) ≡ taken = rw empty (rw (take_nil {A = A} n) (append-nil taken)) in
     sym same ∙ was
 
-pub left_out : {A : Type 0} (n : ℕ) (old new whole : List A) → old ≡ [] → new ≡ [] → drop n (reverse old) ≡ whole → reverse new ≡ whole
+pub left_out : {A : Type 0} (n : ℕ) (old new whole : List A) → old ≡ [] → new ≡ [] → drop n (reverse old) ≡ whole
+    → reverse new ≡ whole
 left_out {A = A} n old new whole empty still was =
     let same : drop n (reverse old) ≡ [] = rw empty (drop_nil {A = A} n) in
     let now : reverse new ≡ [] = rw still in

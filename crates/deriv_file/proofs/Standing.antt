@@ -1,5 +1,7 @@
 -- The trees that stand at places which a list of nodes fills.
-use Rattle.std.proofs.Common.{◌≡◌, ℕ, zero, suc, ◌+◌, ◌≤◌, max, Bool, true, false, not, ◌&&◌, ◌==◌, nat_le, List, [], ◌∷◌, ◌++◌, length, map, sum, replicate, if◌then◌else◌, refl, sym, ◌∙◌, ap, subst, append_assoc, append-nil, length-append, leb-true, eq-eqb, arith}
+use Rattle.std.proofs.Common.{◌≡◌, ℕ, zero, suc, ◌+◌, ◌≤◌, max, Bool, true, false, not, ◌&&◌, ◌==◌, nat_le, List, [], ◌∷◌, ◌++◌}
+use Rattle.std.proofs.Common.{length, map, sum, replicate, if◌then◌else◌, refl, sym, ◌∙◌, ap, subst, append_assoc, append-nil}
+use Rattle.std.proofs.Common.{length-append, leb-true, eq-eqb, arith}
 use Rattle.std.proofs.lemmas.List.{length-map, replicate-append-replicate}
 use Rattle.std.proofs.lemmas.List.Sums.{sum_by-cons}
 use Rattle.rup_base.specs.Gather.{joined, all_true, greatest}
@@ -10,11 +12,15 @@ use Rattle.deriv_tree.specs.declared.tree.StmtNode.{StmtNode, roll-StmtNode, fol
 use Rattle.deriv_tree.specs.declared.tree.Block.{Block, roll-Block, out-Block, out-roll-Block, fold-roll-Block}
 use Rattle.deriv_tree.specs.declared.tree.Block.TheOpen.{Block-F, StmtNode-F}
 use Rattle.deriv_tree.specs.declared.listed.Listed.{Listed}
-use Rattle.deriv_tree.specs.Shape.{is_expression, kids, blocks, expr_shaped, expr_shaped_step, stmt_shaped, stmt_shaped_step, block_shaped, block_shaped_step}
-use Rattle.deriv_tree.specs.Measure.{expr_size, expr_size_step, stmt_size, stmt_size_step, block_size, block_size_step, expr_depth, expr_depth_step, stmt_depth, stmt_depth_step, block_depth, block_depth_step}
-use Rattle.deriv_tree.specs.Preorder.{BlockList, expr_list, expr_list_step, stmt_list, stmt_list_step, block_list, block_list_step, count_of, nodes_of}
+use Rattle.deriv_tree.specs.Shape.{is_expression, kids, blocks, expr_shaped, expr_shaped_step, stmt_shaped, stmt_shaped_step}
+use Rattle.deriv_tree.specs.Shape.{block_shaped, block_shaped_step}
+use Rattle.deriv_tree.specs.Measure.{expr_size, expr_size_step, stmt_size, stmt_size_step, block_size, block_size_step}
+use Rattle.deriv_tree.specs.Measure.{expr_depth, expr_depth_step, stmt_depth, stmt_depth_step, block_depth, block_depth_step}
+use Rattle.deriv_tree.specs.Preorder.{BlockList, expr_list, expr_list_step, stmt_list, stmt_list_step, block_list}
+use Rattle.deriv_tree.specs.Preorder.{block_list_step, count_of, nodes_of}
 use Rattle.deriv_file.specs.declared.places.Place.{Place}
-use Rattle.deriv_file.specs.Limits.{has_room, around_kids, kids_few, expr_few, expr_few_step, stmt_few, stmt_few_step, block_few, block_few_step}
+use Rattle.deriv_file.specs.Limits.{has_room, around_kids, kids_few, expr_few, expr_few_step, stmt_few, stmt_few_step, block_few}
+use Rattle.deriv_file.specs.Limits.{block_few_step}
 use Rattle.deriv_file.specs.Places.{is_of_kind, admits, kid_place, block_place, outer_place, called_for}
 use Rattle.deriv_file.proofs.Filling.{Fills}
 
@@ -106,9 +112,11 @@ pub record BlocksAt (counts : List ℕ) (q : Place) (ns : List Listed) : Type 0 
 regroup : (ns first rest some more : List Listed) → ns ≡ first ++ rest → rest ≡ some ++ more → ns ≡ (first ++ some) ++ more
 regroup ns first rest some more h k = h ∙ ap (λ (ms : List Listed). first ++ ms) k ∙ sym (append_assoc first some more)
 
-one_expr_more : (k : ℕ) (q : Place) (first some : List Listed) → ExprAt q first → ExprsAt k q some → ExprsAt (suc k) q (first ++ some)
+one_expr_more : (k : ℕ) (q : Place) (first some : List Listed) → ExprAt q first → ExprsAt k q some
+    → ExprsAt (suc k) q (first ++ some)
 one_expr_more k q first some one more =
-    let total : sum (expr_size one.e ∷ map expr_size more.es) ≡ expr_size one.e + sum (map expr_size more.es) = sum_by-cons (λ n. n) (expr_size one.e) (map expr_size more.es) in
+    let total : sum (expr_size one.e ∷ map expr_size more.es) ≡ expr_size one.e + sum (map expr_size more.es) =
+    sum_by-cons (λ n. n) (expr_size one.e) (map expr_size more.es) in
     record {
       es = one.e ∷ more.es;
       many = ap suc more.many;
@@ -119,9 +127,11 @@ one_expr_more k q first some one more =
       few = both_true (expr_few one.e q.rewrites) (kids_few q.rewrites (map expr_few more.es)) one.few more.few;
     }
 
-one_stmt_more : (k : ℕ) (q : Place) (first some : List Listed) → StmtAt q first → StmtsAt k q some → StmtsAt (suc k) q (first ++ some)
+one_stmt_more : (k : ℕ) (q : Place) (first some : List Listed) → StmtAt q first → StmtsAt k q some
+    → StmtsAt (suc k) q (first ++ some)
 one_stmt_more k q first some one more =
-    let total : sum (stmt_size one.n ∷ map stmt_size more.ss) ≡ stmt_size one.n + sum (map stmt_size more.ss) = sum_by-cons (λ n. n) (stmt_size one.n) (map stmt_size more.ss) in
+    let total : sum (stmt_size one.n ∷ map stmt_size more.ss) ≡ stmt_size one.n + sum (map stmt_size more.ss) =
+    sum_by-cons (λ n. n) (stmt_size one.n) (map stmt_size more.ss) in
     record {
       ss = one.n ∷ more.ss;
       many = ap suc more.many;
@@ -190,7 +200,8 @@ block_at k q ns h =
     let listed : block_list (roll-Block x) ≡ record { count = length (map stmt_list h.ss); nodes = joined (map stmt_list h.ss) }
     = fold-roll-Block BlockList (List Listed) block_list_step stmt_list_step x in
     let size : block_size (roll-Block x) ≡ sum (map stmt_size h.ss) = fold-roll-Block ℕ ℕ block_size_step stmt_size_step x in
-    let depth : block_depth (roll-Block x) ≡ greatest (map stmt_depth h.ss) = fold-roll-Block ℕ ℕ block_depth_step stmt_depth_step x in
+    let depth : block_depth (roll-Block x)
+    ≡ greatest (map stmt_depth h.ss) = fold-roll-Block ℕ ℕ block_depth_step stmt_depth_step x in
     record {
       b = roll-Block x;
       inside = ap (λ (z : Block-F Block StmtNode). length z.nodes) (out-roll-Block x) ∙ h.many;
@@ -202,9 +213,11 @@ block_at k q ns h =
       few = fold-roll-Block Bool Bool block_few_step stmt_few_step x ∙ h.few;
     }
 
-one_block_more : (c : ℕ) (cs : List ℕ) (q : Place) (first some : List Listed) → BlockAt c q first → BlocksAt cs q some → BlocksAt (c ∷ cs) q (first ++ some)
+one_block_more : (c : ℕ) (cs : List ℕ) (q : Place) (first some : List Listed) → BlockAt c q first → BlocksAt cs q some
+    → BlocksAt (c ∷ cs) q (first ++ some)
 one_block_more c cs q first some one more =
-    let total : sum (block_size one.b ∷ map block_size more.bs) ≡ block_size one.b + sum (map block_size more.bs) = sum_by-cons (λ n. n) (block_size one.b) (map block_size more.bs) in
+    let total : sum (block_size one.b ∷ map block_size more.bs) ≡ block_size one.b + sum (map block_size more.bs) =
+    sum_by-cons (λ n. n) (block_size one.b) (map block_size more.bs) in
     record {
       bs = one.b ∷ more.bs;
       many = λ i. one.many i ∷ more.many i;
@@ -215,7 +228,8 @@ one_block_more c cs q first some one more =
       few = both_true (block_few one.b) (all_true (map block_few more.bs)) one.few more.few;
     }
 
-pub split_places : (c : ℕ) (cs : List ℕ) (q : Place) (ps : List Place) → replicate (sum (c ∷ cs)) q ++ ps ≡ replicate c q ++ (replicate (sum cs) q ++ ps)
+pub split_places : (c : ℕ) (cs : List ℕ) (q : Place) (ps : List Place)
+    → replicate (sum (c ∷ cs)) q ++ ps ≡ replicate c q ++ (replicate (sum cs) q ++ ps)
 split_places c cs q ps =
     ap (λ (n : ℕ). replicate n q ++ ps) (sum_by-cons (λ n. n) c cs)
     ∙ ap (λ (qs : List Place). qs ++ ps) (sym (replicate-append-replicate c (sum cs) q))
@@ -231,7 +245,8 @@ blocks_stand [] q ps ns is low h = record {
   whole = refl;
 }
 blocks_stand (c ∷ cs) q ps ns is low h =
-    let one = stmts_stand c q (replicate (sum cs) q ++ ps) ns is low (subst (λ (qs : List Place). Stands qs ns) (split_places c cs q ps) h) in
+    let one = stmts_stand c q (replicate (sum cs) q ++ ps) ns is low
+    (subst (λ (qs : List Place). Stands qs ns) (split_places c cs q ps) h) in
     let others = blocks_stand cs q ps one.rest is low one.at_rest in
     record {
       first = one.first ++ others.first;
@@ -243,7 +258,8 @@ blocks_stand (c ∷ cs) q ps ns is low h =
 
 -- A node with its kids and its blocks.
 
-expr_at : (p : Place) (n : Listed) (ns : List Listed) → is_expression n.step.rule ≡ true → has_room n.step.rule p.rewrites ≡ true → n.counts ≡ []
+expr_at : (p : Place) (n : Listed) (ns : List Listed) → is_expression n.step.rule ≡ true → has_room n.step.rule p.rewrites ≡ true
+    → n.counts ≡ []
     → ExprsAt (kids n.step.rule) (kid_place p n.step.rule) ns → ExprAt p (n ∷ ns)
 expr_at p n ns is room counts h =
     let x : ExprNode-F ExprNode = record { step = n.step; kids = h.es } in
@@ -252,27 +268,35 @@ expr_at p n ns is room counts h =
     let many : length (map expr_shaped h.es) ≡ kids n.step.rule = length-map h.es expr_shaped ∙ h.many in
     record {
       e = roll-ExprNode x;
-      list = fold-roll-ExprNode (List Listed) expr_list_step x ∙ (λ i. record { step = n.step; counts = sym counts i } ∷ h.list i);
+      list = fold-roll-ExprNode (List Listed) expr_list_step x
+          ∙ (λ i. record { step = n.step; counts = sym counts i } ∷ h.list i);
       shaped = fold-roll-ExprNode Bool expr_shaped_step x
-          ∙ both_true (is_expression n.step.rule) ((length (map expr_shaped h.es) == kids n.step.rule) && all_true (map expr_shaped h.es)) is
-          (both_true (length (map expr_shaped h.es) == kids n.step.rule) (all_true (map expr_shaped h.es)) (eq-eqb (length (map expr_shaped h.es)) (kids n.step.rule) many) h.shaped);
+          ∙ both_true (is_expression n.step.rule)
+          ((length (map expr_shaped h.es) == kids n.step.rule) && all_true (map expr_shaped h.es)) is
+          (both_true (length (map expr_shaped h.es) == kids n.step.rule) (all_true (map expr_shaped h.es))
+          (eq-eqb (length (map expr_shaped h.es)) (kids n.step.rule) many) h.shaped);
       size = omega (arith, size, h.size);
       deep = omega (arith, depth, h.deep);
       few = ap (λ (f : ℕ → Bool). f p.rewrites) (fold-roll-ExprNode (ℕ → Bool) expr_few_step x)
-          ∙ both_true (has_room n.step.rule p.rewrites) (kids_few (around_kids n.step.rule p.rewrites) (map expr_few h.es)) room h.few;
+          ∙ both_true (has_room n.step.rule p.rewrites) (kids_few (around_kids n.step.rule p.rewrites) (map expr_few h.es)) room
+          h.few;
     }
 
-stmt_at : (p : Place) (n : Listed) (some more : List Listed) → not (is_expression n.step.rule) ≡ true → length n.counts ≡ blocks n.step.rule
-    → ExprsAt (kids n.step.rule) (kid_place p n.step.rule) some → BlocksAt n.counts (block_place p) more → StmtAt p (n ∷ (some ++ more))
+stmt_at : (p : Place) (n : Listed) (some more : List Listed) → not (is_expression n.step.rule) ≡ true
+    → length n.counts ≡ blocks n.step.rule
+    → ExprsAt (kids n.step.rule) (kid_place p n.step.rule) some → BlocksAt n.counts (block_place p) more
+    → StmtAt p (n ∷ (some ++ more))
 stmt_at p n some more is counts ks bs =
     let x : StmtNode-F Block StmtNode = record { step = n.step; kids = ks.es; blocks = bs.bs } in
     let total : sum (map expr_size ks.es) + 1 + sum (map block_size bs.bs) ≡ length (n ∷ (some ++ more)) =
     omega (arith, ks.size, bs.size, length-append some more) in
-    let size : stmt_size (roll-StmtNode x) ≡ sum (map expr_size ks.es) + 1 + sum (map block_size bs.bs) = fold-roll-StmtNode ℕ ℕ block_size_step stmt_size_step x in
+    let size : stmt_size (roll-StmtNode x) ≡ sum (map expr_size ks.es) + 1 + sum (map block_size bs.bs) =
+    fold-roll-StmtNode ℕ ℕ block_size_step stmt_size_step x in
     let depth : stmt_depth (roll-StmtNode x) ≡ max (greatest (map expr_depth ks.es)) (greatest (map block_depth bs.bs)) + 1
     = fold-roll-StmtNode ℕ ℕ block_depth_step stmt_depth_step x in
     let many : length (map block_shaped bs.bs) ≡ blocks n.step.rule =
-    length-map bs.bs block_shaped ∙ sym (length-map bs.bs block_list) ∙ sym (length-map (map block_list bs.bs) count_of) ∙ ap (λ (ms : List ℕ). length ms) bs.many ∙ counts in
+    length-map bs.bs block_shaped ∙ sym (length-map bs.bs block_list) ∙ sym (length-map (map block_list bs.bs) count_of)
+    ∙ ap (λ (ms : List ℕ). length ms) bs.many ∙ counts in
     let around : around_kids n.step.rule p.rewrites ≡ 0 = statement_around n.step.rule p.rewrites is in
     record {
       n = roll-StmtNode x;
@@ -280,11 +304,15 @@ stmt_at p n some more is counts ks bs =
           ∙ (λ i. record { step = n.step; counts = bs.many i } ∷ (ks.list i ++ bs.list i));
       shaped = fold-roll-StmtNode Bool Bool block_shaped_step stmt_shaped_step x
           ∙ both_true (not (is_expression n.step.rule))
-          ((length ks.es == kids n.step.rule) && ((length (map block_shaped bs.bs) == blocks n.step.rule) && (all_true (map expr_shaped ks.es) && all_true (map block_shaped bs.bs)))) is
+          ((length ks.es == kids n.step.rule)
+          && ((length (map block_shaped bs.bs) == blocks n.step.rule)
+          && (all_true (map expr_shaped ks.es) && all_true (map block_shaped bs.bs)))) is
           (both_true (length ks.es == kids n.step.rule)
-          ((length (map block_shaped bs.bs) == blocks n.step.rule) && (all_true (map expr_shaped ks.es) && all_true (map block_shaped bs.bs)))
+          ((length (map block_shaped bs.bs) == blocks n.step.rule)
+          && (all_true (map expr_shaped ks.es) && all_true (map block_shaped bs.bs)))
           (eq-eqb (length ks.es) (kids n.step.rule) ks.many)
-          (both_true (length (map block_shaped bs.bs) == blocks n.step.rule) (all_true (map expr_shaped ks.es) && all_true (map block_shaped bs.bs))
+          (both_true (length (map block_shaped bs.bs) == blocks n.step.rule)
+          (all_true (map expr_shaped ks.es) && all_true (map block_shaped bs.bs))
           (eq-eqb (length (map block_shaped bs.bs)) (blocks n.step.rule) many)
           (both_true (all_true (map expr_shaped ks.es)) (all_true (map block_shaped bs.bs)) ks.shaped bs.shaped)));
       size = size ∙ total;
@@ -317,14 +345,18 @@ none_of [] h = refl
 none_of (x ∷ xs) h = absurd (omega (arith, h))
 
 called_apart : (p : Place) (n : Listed) (ps : List Place)
-    → called_for p n ++ ps ≡ replicate (kids n.step.rule) (kid_place p n.step.rule) ++ (replicate (sum n.counts) (block_place p) ++ ps)
-called_apart p n ps = append_assoc (replicate (kids n.step.rule) (kid_place p n.step.rule)) (replicate (sum n.counts) (block_place p)) ps
+    → called_for p n ++ ps ≡ replicate (kids n.step.rule) (kid_place p n.step.rule)
+    ++ (replicate (sum n.counts) (block_place p) ++ ps)
+called_apart p n ps = append_assoc (replicate (kids n.step.rule) (kid_place p n.step.rule))
+    (replicate (sum n.counts) (block_place p)) ps
 
-tree_at : (b : Bool) (p : Place) (n : Listed) (ps : List Place) (ns : List Listed) → p.is_statement ≡ b → Admitted p n.step.rule → length n.counts ≡ blocks n.step.rule
+tree_at : (b : Bool) (p : Place) (n : Listed) (ps : List Place) (ns : List Listed) → p.is_statement ≡ b → Admitted p n.step.rule
+    → length n.counts ≡ blocks n.step.rule
     → Stands (called_for p n ++ ps) ns → Parts (TreeAt b p) (Stands ps) (n ∷ ns)
 tree_at true p n ps ns is takes counts h =
     let kind : not (is_expression n.step.rule) ≡ true = subst (λ (b : Bool). is_of_kind b n.step.rule ≡ true) is takes.kind in
-    let ks = exprs_stand (kids n.step.rule) (kid_place p n.step.rule) (replicate (sum n.counts) (block_place p) ++ ps) ns refl (omega (arith, takes.depth))
+    let ks = exprs_stand (kids n.step.rule) (kid_place p n.step.rule) (replicate (sum n.counts) (block_place p) ++ ps) ns refl
+    (omega (arith, takes.depth))
     (subst (λ (qs : List Place). Stands qs ns) (called_apart p n ps) h) in
     let bs = blocks_stand n.counts (block_place p) ps ks.rest refl (omega (arith, takes.depth)) ks.at_rest in
     record {
@@ -337,7 +369,8 @@ tree_at true p n ps ns is takes counts h =
 tree_at false p n ps ns is takes counts h =
     let kind : is_expression n.step.rule ≡ true = subst (λ (b : Bool). is_of_kind b n.step.rule ≡ true) is takes.kind in
     let none : n.counts ≡ [] = none_of n.counts (counts ∙ expression_blocks n.step.rule kind) in
-    let ks = exprs_stand (kids n.step.rule) (kid_place p n.step.rule) (replicate (sum n.counts) (block_place p) ++ ps) ns refl (omega (arith, takes.depth))
+    let ks = exprs_stand (kids n.step.rule) (kid_place p n.step.rule) (replicate (sum n.counts) (block_place p) ++ ps) ns refl
+    (omega (arith, takes.depth))
     (subst (λ (qs : List Place). Stands qs ns) (called_apart p n ps) h) in
     record {
       first = n ∷ ks.first;
@@ -350,13 +383,16 @@ tree_at false p n ps ns is takes counts h =
 pub stands : (ns : List Listed) (ps : List Place) → Fills ns ps → Stands ps ns
 stands [] ps h = subst (λ (qs : List Place). Stands qs []) (sym h) refl
 stands (n ∷ ns) [] h = absurd h
-stands (n ∷ ns) (p ∷ ps) h = tree_at p.is_statement p n ps ns refl (admitted p n.step.rule h.0) h.1 (stands ns (called_for p n ++ ps) h.2)
+stands (n ∷ ns) (p ∷ ps) h = tree_at p.is_statement p n ps ns refl (admitted p n.step.rule h.0) h.1
+    (stands ns (called_for p n ++ ps) h.2)
 
 -- the outer block
 pub body_stands : (block : ℕ) (ns : List Listed) → Fills ns (replicate block outer_place) → BlockAt block outer_place ns
 body_stands block ns h =
     let all : Stands (replicate block outer_place ++ []) ns =
-    subst (λ (qs : List Place). Stands qs ns) (sym (append-nil (replicate block outer_place))) (stands ns (replicate block outer_place) h) in
+    subst (λ (qs : List Place). Stands qs ns) (sym (append-nil (replicate block outer_place)))
+    (stands ns (replicate block outer_place) h) in
     let parts = stmts_stand block outer_place [] ns refl (omega arith) all in
-    let same : parts.first ≡ ns = sym (append-nil parts.first) ∙ ap (λ (ms : List Listed). parts.first ++ ms) (sym parts.at_rest) ∙ sym parts.whole in
+    let same : parts.first ≡ ns = sym (append-nil parts.first) ∙ ap (λ (ms : List Listed). parts.first ++ ms) (sym parts.at_rest)
+    ∙ sym parts.whole in
     subst (λ (ms : List Listed). BlockAt block outer_place ms) same (block_at block outer_place parts.first parts.at_first)

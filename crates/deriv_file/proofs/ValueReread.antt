@@ -1,5 +1,6 @@
 -- The text of a value whose integers fit 64 bits is read as that value.
-use Rattle.std.proofs.Common.{◌≡◌, ℕ, suc, ◌<◌, ◌≤◌, ◌^◌, Bool, true, false, ℤ, pos, negsuc, List, [], ◌∷◌, ◌++◌, map, Some, option_map, option_and_then, IsUtf8, decimal, refl, sym, ◌∙◌, ap, append-nil, arith}
+use Rattle.std.proofs.Common.{◌≡◌, ℕ, suc, ◌<◌, ◌≤◌, ◌^◌, Bool, true, false, ℤ, pos, negsuc, List, [], ◌∷◌, ◌++◌, map, Some}
+use Rattle.std.proofs.Common.{option_map, option_and_then, IsUtf8, decimal, refl, sym, ◌∙◌, ap, append-nil, arith}
 use Rattle.std.specs.Prelude.{⊤}
 use Rattle.std.specs.Fmt.{signed_decimal}
 use Rattle.std.proofs.lemmas.Str.{IsUtf8-append, IsUtf8-from_ascii}
@@ -68,7 +69,8 @@ comma_utf8 true = IsUtf8-are_ascii (44 ∷ []) refl
 comma_utf8 false = IsUtf8-are_ascii [] refl
 
 items_reread : (levels : ℕ) (ds : List Data) → AllReread levels ds → ItemsReread levels (items_of ds)
-items_reread levels [] h = record { reads = refl; numbers = tt; low = omega arith; utf8 = λ later. IsUtf8-are_ascii (93 ∷ []) refl }
+items_reread levels [] h = record
+    { reads = refl; numbers = tt; low = omega arith; utf8 = λ later. IsUtf8-are_ascii (93 ∷ []) refl }
 items_reread levels (d ∷ ds) h =
     let rest = items_reread levels ds h.1 in
     let first : Reread levels d = h.0 in
@@ -90,7 +92,8 @@ array_reread levels ds h =
       utf8 = IsUtf8-append (91 ∷ []) (items_text false (items_of ds)) (IsUtf8-are_ascii (91 ∷ []) refl) (items.utf8 false);
     }
 
-pub all_reread : {T : Type 0} (levels : ℕ) (f : T → Data) → ((x : T) → Reread levels (f x)) → (xs : List T) → AllReread levels (map f xs)
+pub all_reread : {T : Type 0} (levels : ℕ) (f : T → Data) → ((x : T) → Reread levels (f x)) → (xs : List T)
+    → AllReread levels (map f xs)
 all_reread levels f back [] = tt
 all_reread levels f back (x ∷ xs) = (back x, all_reread levels f back xs)
 
@@ -105,5 +108,6 @@ text_reread levels d h r =
     ∙ tokens-print (tree.json_tokens (outline d)) printable
     ∙ sym (append-nil (tree.json_tokens (outline d))) in
     ap (λ ts. option_and_then of_json (option_and_then (λ p. json.if_last p.0 p.1) (json.value 127 ts))) same
-    ∙ ap (λ o. option_and_then of_json (option_and_then (λ p. json.if_last p.0 p.1) o)) (value-json_tokens (outline d) 127 [] (omega (arith, r.low, h)))
+    ∙ ap (λ o. option_and_then of_json (option_and_then (λ p. json.if_last p.0 p.1) o))
+    (value-json_tokens (outline d) 127 [] (omega (arith, r.low, h)))
     ∙ r.reads

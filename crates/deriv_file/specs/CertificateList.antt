@@ -1,4 +1,5 @@
--- The certificates of a node, where the node has them itself: a list of `[d, entries]`, an entry being `[kind, number, multiplier]`.
+-- The certificates of a node, where the node has them itself: a list of
+-- `[d, entries]`, an entry being `[kind, number, multiplier]`.
 use Rattle.std.specs.Prelude.{◌^◌, List, [], ◌∷◌, Option, Some, None, option_map, option_and_then}
 use Rattle.serde_json.specs.Data.{Data, Items, no_items, item}
 use Rattle.serde_json.specs.Find.{as_array}

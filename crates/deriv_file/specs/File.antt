@@ -1,5 +1,6 @@
 -- A derivation's file: its header, and the first fault of a file that is none.
-use Rattle.std.specs.Prelude.{◌≡◌, ℕ, ◌<◌, ◌^◌, Bool, true, false, ◌==◌, nat_le, List, length, Option, Some, None, option_and_then, codes, IsUtf8, Result, Ok, Err, if◌then◌else◌}
+use Rattle.std.specs.Prelude.{◌≡◌, ℕ, ◌<◌, ◌^◌, Bool, true, false, ◌==◌, nat_le, List, length, Option, Some, None}
+use Rattle.std.specs.Prelude.{option_and_then, codes, IsUtf8, Result, Ok, Err, if◌then◌else◌}
 use Rattle.serde_json.specs.Data.{Data, Items, Members}
 use Rattle.serde_json.specs.Read.{read}
 use Rattle.serde_json.specs.Events.{items_len, members_len}
@@ -44,7 +45,8 @@ model_of d = option_and_then name_of (as_str d)
 
 abbrev pub derivation_of_parts : Data → Data → Data → Data → Result Derivation Refusal
 derivation_of_parts block version model nodes =
-    or_header (block_of block) (λ count. or_header (version_of version) (λ _. or_header (model_of model) (λ name. or_header (as_array nodes)
+    or_header (block_of block) (λ count. or_header (version_of version)
+    (λ _. or_header (model_of model) (λ name. or_header (as_array nodes)
     (λ items. derivation_of_nodes count name items))))
 
 abbrev pub are_four : Option Members → Bool
@@ -58,7 +60,8 @@ has_four_members d = are_four (as_object d)
 abbrev pub derivation_of : Data → Result Derivation Refusal
 derivation_of d =
     if has_four_members d
-    then or_header (get (codes "block") d) (λ block. or_header (get (codes "deriv") d) (λ version. or_header (get (codes "model") d) (λ model.
+    then or_header (get (codes "block") d)
+    (λ block. or_header (get (codes "deriv") d) (λ version. or_header (get (codes "model") d) (λ model.
     or_header (get (codes "nodes") d) (λ nodes. derivation_of_parts block version model nodes))))
     else Err (NotDerivation None)
 

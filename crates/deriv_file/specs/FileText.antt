@@ -47,7 +47,8 @@ node_data n = array (items_of (step_parts n.step ++ counts_part n.counts))
 -- the header with its four members, the version being 1
 abbrev pub object_of : ℕ → Data → Data → Data
 object_of block model nodes =
-    object (member (codes "block") (whole block) (member (codes "deriv") (whole 1) (member (codes "model") model (member (codes "nodes") nodes no_members))))
+    object (member (codes "block") (whole block)
+    (member (codes "deriv") (whole 1) (member (codes "model") model (member (codes "nodes") nodes no_members))))
 
 -- the header, with the nodes in preorder
 abbrev pub file_data : Derivation → Data

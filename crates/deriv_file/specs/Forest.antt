@@ -30,7 +30,8 @@ grow_expr n t = record {
 abbrev pub grow_stmt : Listed → Trees → Trees
 grow_stmt n t = record {
   exprs = drop (kids n.step.rule) t.exprs;
-  stmts = roll-StmtNode (record { step = n.step; kids = take (kids n.step.rule) t.exprs; blocks = cut n.counts t.stmts }) ∷ drop (sum n.counts) t.stmts;
+  stmts = roll-StmtNode (record { step = n.step; kids = take (kids n.step.rule) t.exprs; blocks = cut n.counts t.stmts })
+      ∷ drop (sum n.counts) t.stmts;
 }
 
 -- the trees with the node in front of them

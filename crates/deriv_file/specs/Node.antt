@@ -1,4 +1,5 @@
--- A node of a file: `[rule, args, certs]`, and behind them the list of the numbers of nodes of its blocks where its rule has blocks.
+-- A node of a file: `[rule, args, certs]`, and behind them the list of
+-- the numbers of nodes of its blocks where its rule has blocks.
 use Rattle.std.specs.Prelude.{ℕ, ◌==◌, List, [], length, Option, None, option_map, option_and_then, if◌then◌else◌}
 use Rattle.serde_json.specs.Data.{Data, Items, no_items, item}
 use Rattle.serde_json.specs.Find.{as_str, as_array}
@@ -21,7 +22,8 @@ step_of rule args certs =
 
 -- a list of as many numbers as the rule has blocks, of which there is at least one
 abbrev pub some_counts : ℕ → Data → Option (List ℕ)
-some_counts n d = if n == 0 then None else option_and_then (λ ns. only_if (length ns == n) ns) (option_and_then counts_of (as_array d))
+some_counts n d = if n == 0 then None
+    else option_and_then (λ ns. only_if (length ns == n) ns) (option_and_then counts_of (as_array d))
 
 abbrev pub block_counts : ℕ → Items → Option (List ℕ)
 block_counts n no_items = only_if (n == 0) []

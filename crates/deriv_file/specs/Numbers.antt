@@ -1,5 +1,6 @@
 -- Whole numbers of a file: those that JSON's reading gives as a 64-bit integer, so none with a point or an exponent.
-use Rattle.std.specs.Prelude.{ℕ, ◌^◌, Bool, true, false, ◌&&◌, nat_le, List, [], ◌∷◌, Option, Some, None, option_map, option_and_then, ℤ, nat_abs}
+use Rattle.std.specs.Prelude.{ℕ, ◌^◌, Bool, true, false, ◌&&◌, nat_le, List, [], ◌∷◌, Option, Some, None, option_map}
+use Rattle.std.specs.Prelude.{option_and_then, ℤ, nat_abs}
 use Rattle.deriv_tree.specs.Shape.{most_nodes}
 use Rattle.serde_json.specs.Data.{Data, Items, no_items, item}
 use Rattle.serde_json.specs.Find.{as_number, as_i64, as_u64}
@@ -10,7 +11,8 @@ only_if true x = Some x
 only_if false x = None
 
 abbrev pub number_in : ℕ → ℕ → Data → Option ℕ
-number_in least greatest d = option_and_then (λ n. only_if (nat_le least n && nat_le n greatest) n) (option_and_then as_u64 (as_number d))
+number_in least greatest d = option_and_then (λ n. only_if (nat_le least n && nat_le n greatest) n)
+    (option_and_then as_u64 (as_number d))
 
 -- an argument has a magnitude of at most 2^40
 abbrev pub argument_of : Data → Option ℤ

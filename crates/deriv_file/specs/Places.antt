@@ -12,7 +12,8 @@ use Rattle.deriv_file.specs.declared.places.Places.{Places}
 abbrev pub is_of_kind : Bool → Rule → Bool
 is_of_kind is_statement r = if is_statement then not (is_expression r) else is_expression r
 
--- the place takes a node of the rule: the rule is of its kind, no depth passes 1,000, and at most eight rewrites stand directly inside one another
+-- the place takes a node of the rule: the rule is of its kind, no depth passes
+-- 1,000, and at most eight rewrites stand directly inside one another
 abbrev pub admits : Place → Rule → Bool
 admits p r =
     if is_of_kind p.is_statement r then (if nat_le p.depth 1000 then has_room r p.rewrites else false) else false

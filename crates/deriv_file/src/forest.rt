@@ -1,4 +1,5 @@
-//! From the list of a tree's nodes to the tree. No call here holds a call of its own kind, so the stack does not grow with the depth.
+//! From the list of a tree's nodes to the tree. No call here holds a call of its own kind, so the stack does not grow with the
+//! depth.
 ghost use Rattle.std.specs.Prelude.{◌≡◌, take, drop, reverse, sum, IfOk, OnOk};
 ghost use Rattle.deriv_file.specs.Forest as spec;
 

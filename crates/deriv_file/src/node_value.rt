@@ -20,7 +20,8 @@ pub fn expr_value(alloc: Global, step: &Step) -> Result<Value, NoMemory>
 
 /// The value of a statement's node.
 pub fn stmt_value(alloc: Global, step: &Step, blocks: &[Block]) -> Result<Value, NoMemory>
-    ensures { IfOk result (λ value. view value ≡ spec.node_data (record { step = step.now; counts = map count_of (map block_list blocks.now) })) }
+    ensures { IfOk result (λ value. view value
+        ≡ spec.node_data (record { step = step.now; counts = map count_of (map block_list blocks.now) })) }
 {
     let mut parts = step_parts(alloc, step)?;
     push_counts(alloc, blocks, &mut parts)?;
@@ -39,7 +40,8 @@ fn step_parts(alloc: Global, step: &Step) -> Result<Vec<Value>, NoMemory>
 
 /// Puts the list of the blocks' numbers of nodes behind the other parts, where there are blocks.
 fn push_counts(alloc: Global, blocks: &[Block], parts: &mut Vec<Value>) -> Result<(), NoMemory>
-    ensures { OnOk result (map view parts.new.items ≡ map view parts.old.items ++ spec.counts_part (map count_of (map block_list blocks.now))) }
+    ensures { OnOk result (map view parts.new.items
+        ≡ map view parts.old.items ++ spec.counts_part (map count_of (map block_list blocks.now))) }
 {
     if !blocks.is_empty() {
         parts.push(counts_value(alloc, blocks)?)?;

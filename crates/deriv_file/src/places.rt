@@ -115,7 +115,8 @@ impl Places {
     #[tactic(auto, using(crate::proofs::Runs::runs_snoc))]
     /// The first place, which is not open any more. None where none is open.
     pub fn take(&mut self) -> Option<Place>
-        ensures { MatchOption result (spec.open_places self.old ≡ []) (λ p. spec.open_places self.old ≡ p ∷ spec.open_places self.new) }
+        ensures { MatchOption result (spec.open_places self.old ≡ [])
+            (λ p. spec.open_places self.old ≡ p ∷ spec.open_places self.new) }
     {
         'runs: while self.top.count == 0 {
             match self.below.pop() {

@@ -83,7 +83,8 @@ fn push_expr(alloc: Global, node: &ExprNode, out: &mut Vec<Value>) -> Result<(),
 }
 
 fn push_exprs(alloc: Global, nodes: &[ExprNode], out: &mut Vec<Value>) -> Result<(), NoMemory>
-    ensures { OnOk result (map view out.new.items ≡ map view out.old.items ++ map spec.node_data (joined (map expr_list nodes.now))) }
+    ensures { OnOk result (map view out.new.items
+        ≡ map view out.old.items ++ map spec.node_data (joined (map expr_list nodes.now))) }
 {
     for node in nodes {
         push_expr(alloc, node, out)?;

@@ -2,7 +2,8 @@
 use Rattle.std.proofs.Common.{◌≡◌, ℕ, ◌+◌, ◌≤◌, map, sum, List, [], ◌∷◌, arith, subst}
 use Rattle.std.proofs.lemmas.List.Sums.{sum_by-cons}
 use Rattle.rup_base.specs.Gather.{greatest}
-use Rattle.deriv_tree.specs.declared.tree.ExprNode.{ExprNode, ExprNode-F, roll-ExprNode, map-ExprNode, ind-ExprNode, fold-roll-ExprNode}
+use Rattle.deriv_tree.specs.declared.tree.ExprNode.{ExprNode, ExprNode-F, roll-ExprNode, map-ExprNode, ind-ExprNode}
+use Rattle.deriv_tree.specs.declared.tree.ExprNode.{fold-roll-ExprNode}
 use Rattle.deriv_tree.specs.declared.tree.StmtNode.{StmtNode, roll-StmtNode, map-StmtNode, fold-roll-StmtNode}
 use Rattle.deriv_tree.specs.declared.tree.Block.{Block, roll-Block, map-Block, ind-Block, fold-roll-Block}
 use Rattle.deriv_tree.specs.declared.tree.Block.TheOpen.{Block-F, StmtNode-F}
@@ -23,7 +24,8 @@ bare f g ys = map (λ (y : Low f g). y.0) ys
 ones_low : {A : Type 0} (f g : A → ℕ) (ys : List (Low f g)) → greatest (map f (bare f g ys)) ≤ sum (map g (bare f g ys))
 ones_low f g [] = omega arith
 ones_low f g (y ∷ ys) =
-    let total : sum (g y.0 ∷ map g (bare f g ys)) ≡ g y.0 + sum (map g (bare f g ys)) = sum_by-cons (λ n. n) (g y.0) (map g (bare f g ys)) in
+    let total : sum (g y.0 ∷ map g (bare f g ys)) ≡ g y.0 + sum (map g (bare f g ys)) =
+    sum_by-cons (λ n. n) (g y.0) (map g (bare f g ys)) in
     omega (arith, total, ones_low f g ys, y.1)
 
 abbrev ExprLow : ExprNode → Type 0
@@ -53,16 +55,26 @@ LowBlock = (b : Block) × BlockLow b
 abbrev LowStmt : Type 0
 LowStmt = (n : StmtNode) × StmtLow n
 
-block_step : (y : Block-F LowBlock LowStmt) → BlockLow (roll-Block (map-Block LowBlock LowStmt Block StmtNode (λ b. b.0) (λ n. n.0) y))
+block_step : (y : Block-F LowBlock LowStmt)
+    → BlockLow (roll-Block (map-Block LowBlock LowStmt Block StmtNode (λ b. b.0) (λ n. n.0) y))
 block_step y =
     let x : Block-F Block StmtNode = map-Block LowBlock LowStmt Block StmtNode (λ b. b.0) (λ n. n.0) y in
-    rw (fold-roll-Block ℕ ℕ spec.block_depth_step spec.stmt_depth_step x, fold-roll-Block ℕ ℕ spec.block_size_step spec.stmt_size_step x)
+    rw (
+      fold-roll-Block ℕ ℕ spec.block_depth_step spec.stmt_depth_step x,
+      fold-roll-Block ℕ ℕ spec.block_size_step
+          spec.stmt_size_step x,
+    )
     (ones_low spec.stmt_depth spec.stmt_size y.nodes)
 
-stmt_step : (y : StmtNode-F LowBlock LowStmt) → StmtLow (roll-StmtNode (map-StmtNode LowBlock LowStmt Block StmtNode (λ b. b.0) (λ n. n.0) y))
+stmt_step : (y : StmtNode-F LowBlock LowStmt)
+    → StmtLow (roll-StmtNode (map-StmtNode LowBlock LowStmt Block StmtNode (λ b. b.0) (λ n. n.0) y))
 stmt_step y =
     let x : StmtNode-F Block StmtNode = map-StmtNode LowBlock LowStmt Block StmtNode (λ b. b.0) (λ n. n.0) y in
-    rw (fold-roll-StmtNode ℕ ℕ spec.block_depth_step spec.stmt_depth_step x, fold-roll-StmtNode ℕ ℕ spec.block_size_step spec.stmt_size_step x)
+    rw (
+      fold-roll-StmtNode ℕ ℕ spec.block_depth_step spec.stmt_depth_step x,
+      fold-roll-StmtNode ℕ ℕ spec.block_size_step
+          spec.stmt_size_step x,
+    )
     (omega (arith, all_low spec.expr_depth spec.expr_size expr_low y.kids, ones_low spec.block_depth spec.block_size y.blocks))
 
 -- the depth of a block is at most the number of its nodes

@@ -1,7 +1,9 @@
 -- The names of the rules in a text.
 use Rattle.std.specs.Prelude.{ℕ, List, Option, Some, None, codes, bytes_eq, if◌then◌else◌}
 use Rattle.deriv_tree.specs.declared.rule.Rule.{Rule}
-use Rattle.deriv_tree.specs.declared.rule.Rule.TheVariants.{ELit, EVar, ELen, EOp, EAdd, ESub, EMulk, EMask, EShift, ERemk, EDivk, ECmp, ENot, EBoth, EEither, EWord, EByte, ECut, EGet, ETab, ERw, SNote, SLet, SPut, SMove, SIf, SFor, SMap, SFold}
+use Rattle.deriv_tree.specs.declared.rule.Rule.TheVariants.{ELit, EVar, ELen, EOp, EAdd, ESub, EMulk, EMask, EShift, ERemk, EDivk}
+use Rattle.deriv_tree.specs.declared.rule.Rule.TheVariants.{ECmp, ENot, EBoth, EEither, EWord, EByte, ECut, EGet, ETab, ERw}
+use Rattle.deriv_tree.specs.declared.rule.Rule.TheVariants.{SNote, SLet, SPut, SMove, SIf, SFor, SMap, SFold}
 
 abbrev pub name_of : Rule → List ℕ
 name_of ELit = codes "e-lit"

@@ -1,4 +1,5 @@
--- The nodes of a derivation in preorder: a node comes first, then its kids, then its blocks' nodes, each with all that is inside it.
+-- The nodes of a derivation in preorder: a node comes first, then its
+-- kids, then its blocks' nodes, each with all that is inside it.
 use Rattle.std.specs.Prelude.{ℕ, List, [], ◌∷◌, ◌++◌, map, length}
 use Rattle.rup_base.specs.Gather.{joined}
 use Rattle.deriv_tree.specs.declared.listed.Listed.{Listed}

@@ -2,7 +2,8 @@
 use Rattle.std.specs.Prelude.{ℕ, ◌≡◌, ◌≤◌, Bool, true, false, not, ◌&&◌, ◌==◌, map, length}
 use Rattle.rup_base.specs.Gather.{all_true}
 use Rattle.deriv_tree.specs.declared.rule.Rule.{Rule}
-use Rattle.deriv_tree.specs.declared.rule.Rule.TheVariants.{ELit, EVar, ELen, ENot, EWord, EByte, ECut, EGet, ETab, ERw, SNote, SLet, SPut, SMove, SIf, SFor, SMap, SFold}
+use Rattle.deriv_tree.specs.declared.rule.Rule.TheVariants.{ELit, EVar, ELen, ENot, EWord, EByte, ECut, EGet, ETab, ERw, SNote}
+use Rattle.deriv_tree.specs.declared.rule.Rule.TheVariants.{SLet, SPut, SMove, SIf, SFor, SMap, SFold}
 use Rattle.deriv_tree.specs.declared.tree.ExprNode.{ExprNode, ExprNode-F, fold-ExprNode}
 use Rattle.deriv_tree.specs.declared.tree.StmtNode.{StmtNode, fold-StmtNode}
 use Rattle.deriv_tree.specs.declared.tree.Block.{Block, fold-Block}
@@ -66,7 +67,8 @@ block_shaped_step b = all_true b.nodes
 abbrev pub stmt_shaped_step : StmtNode-F Bool Bool → Bool
 stmt_shaped_step n =
     not (is_expression n.step.rule)
-    && ((length n.kids == kids n.step.rule) && ((length n.blocks == blocks n.step.rule) && (all_true (map expr_shaped n.kids) && all_true n.blocks)))
+    && ((length n.kids == kids n.step.rule)
+    && ((length n.blocks == blocks n.step.rule) && (all_true (map expr_shaped n.kids) && all_true n.blocks)))
 
 abbrev pub block_shaped : Block → Bool
 block_shaped = fold-Block Bool Bool block_shaped_step stmt_shaped_step

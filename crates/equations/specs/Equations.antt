@@ -1,6 +1,7 @@
 -- The equations of `WordBook`. Each rewrites the root of an expression alone. In the comments e, f, g are expressions and
 -- N, K are literals.
-use Rattle.std.specs.Prelude.{ℕ, ◌-◌, ◌^◌, nat_eq, Bool, true, false, List, [], ◌∷◌, find, slice_get, Option, Some, None, option_map, option_and_then, if◌then◌else◌}
+use Rattle.std.specs.Prelude.{ℕ, ◌-◌, ◌^◌, nat_eq, Bool, true, false, List, [], ◌∷◌, find, slice_get, Option, Some, None}
+use Rattle.std.specs.Prelude.{option_map, option_and_then, if◌then◌else◌}
 use Rattle.std.specs.List.{range_with_len}
 use Rattle.model_syntax.specs.Operation.{apply}
 use Rattle.model_syntax.specs.declared.expr.Op.{Op}

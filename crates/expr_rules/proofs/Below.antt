@@ -29,9 +29,11 @@ pub record IsBelow (n most top : ℕ) (code : BExpr) (mem : Bytes) (vars : Vars)
   pub small : n ≤ top
   pub less : n ≤ most
 
-module _ (ps : List Param) (scope : Scope) (f g : Env → ℕ) (before : Context) (pq : ExprOut × ExprOut) (mid : Context) (k : Pair ps scope f g Word Word before pq mid)
+module _ (ps : List Param) (scope : Scope) (f g : Env → ℕ) (before : Context) (pq : ExprOut × ExprOut) (mid : Context)
+    (k : Pair ps scope f g Word Word before pq mid)
     (sem : Env → ℕ) (at top : ℕ) (code : BExpr) (locals : (xs : List ℕ) → HasLocals before xs → expr_locals code xs ≡ xs)
-    (is : (v : ℕ → ℕ) (env : Env) (mem : Bytes) (vars : Vars) → And (Of f Word pq.0) (Of g Word pq.1) v env mem vars → IsBelow (sem env) (f env) top code mem vars) where
+    (is : (v : ℕ → ℕ) (env : Env) (mem : Bytes) (vars : Vars) → And (Of f Word pq.0) (Of g Word pq.1) v env mem vars
+    → IsBelow (sem env) (f env) top code mem vars) where
   abbrev R : Fact
   R = And (Of f Word pq.0) (Of g Word pq.1)
 
@@ -50,7 +52,9 @@ module _ (ps : List Param) (scope : Scope) (f g : Env → ℕ) (before : Context
   with_the_fact : Came Numbered ps scope before after_fact
   with_the_fact =
       came_fact Numbered ps scope before (with_top top mid) one (minus pq.0.form s)
-      (known_minus (length (with_top top mid).tops) pq.0.form s (known_more (length mid.tops) (length (with_top top mid).tops) pq.0.form (more_tops mid (with_top top mid) (extends_top mid top)) k.one.known) (next_known mid.tops top))
+      (known_minus (length (with_top top mid).tops) pq.0.form s
+      (known_more (length mid.tops) (length (with_top top mid).tops) pq.0.form
+      (more_tops mid (with_top top mid) (extends_top mid top)) k.one.known) (next_known mid.tops top))
       (λ v env mem vars r.
       let less = (is v env mem vars r.0).less in
       let whole = value_minus v pq.0.form s in
@@ -58,13 +62,17 @@ module _ (ps : List Param) (scope : Scope) (f g : Env → ℕ) (before : Context
       let second : value_at v s ≡ pos (sem env) = value_symbol v (length mid.tops) ∙ ap pos r.1 in
       omega (arith, ints, less, whole, first, second))
 
-  pub below_done : Yields (ExprDone ps scope sem Word before) ((fresh at top >>= (λ s. fact at (minus pq.0.form s) >>= (λ _. give (plain code s)))) mid)
+  pub below_done : Yields (ExprDone ps scope sem Word before)
+      ((fresh at top >>= (λ s. fact at (minus pq.0.form s) >>= (λ _. give (plain code s)))) mid)
   below_done =
-      yields_fresh (ExprDone ps scope sem Word before) mid at top (λ s. fact at (minus pq.0.form s) >>= (λ _. give (plain code s)))
+      yields_fresh (ExprDone ps scope sem Word before) mid at top
+      (λ s. fact at (minus pq.0.form s) >>= (λ _. give (plain code s)))
       (yields_fact (ExprDone ps scope sem Word before) (with_top top mid) at (minus pq.0.form s) (λ _. give (plain code s))
-      (came_done Numbered ps scope before after_fact with_the_fact sem Word (plain code s) (plain_kid before after_fact code s (next_known mid.tops top) locals)
+      (came_done Numbered ps scope before after_fact with_the_fact sem Word (plain code s)
+      (plain_kid before after_fact code s (next_known mid.tops top) locals)
       (λ call v env mem vars fits r.
       let b = is v env mem vars r.0 in
       let less = b.less in
       let small = r.0.0.small in
-      plain_right (sem env) Word code s v mem vars b.value (omega (arith, less, small)) (value_symbol v (length mid.tops) ∙ ap pos r.1))))
+      plain_right (sem env) Word code s v mem vars b.value (omega (arith, less, small))
+      (value_symbol v (length mid.tops) ∙ ap pos r.1))))

@@ -24,14 +24,17 @@ module _ {A : Type 0} (step : BExpr-F A → A) where
   fold_var : (x : ℕ) → fold-BExpr A step (b.Var x) ≡ step (o.Var x)
   fold_var x = ap (fold-BExpr A step) (sym (b.rolls-Var x)) ∙ fold-roll-BExpr A step (o.Var x)
 
-  fold_bin : (op : BOp) (p q : BExpr) → fold-BExpr A step (b.Bin op p q) ≡ step (o.Bin op (fold-BExpr A step p) (fold-BExpr A step q))
+  fold_bin : (op : BOp) (p q : BExpr)
+      → fold-BExpr A step (b.Bin op p q) ≡ step (o.Bin op (fold-BExpr A step p) (fold-BExpr A step q))
   fold_bin op p q = ap (fold-BExpr A step) (sym (b.rolls-Bin op p q)) ∙ fold-roll-BExpr A step (o.Bin op p q)
 
   fold_load : (size : Size) (p : BExpr) → fold-BExpr A step (b.Load size p) ≡ step (o.Load size (fold-BExpr A step p))
   fold_load size p = ap (fold-BExpr A step) (sym (b.rolls-Load size p)) ∙ fold-roll-BExpr A step (o.Load size p)
 
-  fold_table : (size : Size) (bytes : List ℕ) (p : BExpr) → fold-BExpr A step (b.Table size bytes p) ≡ step (o.Table size bytes (fold-BExpr A step p))
-  fold_table size bytes p = ap (fold-BExpr A step) (sym (b.rolls-Table size bytes p)) ∙ fold-roll-BExpr A step (o.Table size bytes p)
+  fold_table : (size : Size) (bytes : List ℕ) (p : BExpr) → fold-BExpr A step (b.Table size bytes p)
+      ≡ step (o.Table size bytes (fold-BExpr A step p))
+  fold_table size bytes p = ap (fold-BExpr A step) (sym (b.rolls-Table size bytes p))
+      ∙ fold-roll-BExpr A step (o.Table size bytes p)
 
 abbrev Value : Type 0
 Value = Bytes → Vars → Option ℕ
@@ -46,24 +49,30 @@ module _ (mem : Bytes) (vars : Vars) where
   pub value_var : (x : ℕ) → value (b.Var x) mem vars ≡ local_at vars x
   value_var x = ap (λ (f : Value). f mem vars) (fold_var value_step x)
 
-  pub value_bin : (op : BOp) (p q : BExpr) (m n : ℕ) → value p mem vars ≡ Some m → value q mem vars ≡ Some n → value (b.Bin op p q) mem vars ≡ Some (bed.apply op m n)
+  pub value_bin : (op : BOp) (p q : BExpr) (m n : ℕ) → value p mem vars ≡ Some m → value q mem vars ≡ Some n
+      → value (b.Bin op p q) mem vars ≡ Some (bed.apply op m n)
   value_bin op p q m n one two =
       ap (λ (f : Value). f mem vars) (fold_bin value_step op p q)
       ∙ ap (λ z. both (bed.apply op) z (value q mem vars)) one
       ∙ ap (λ z. both (bed.apply op) (Some m) z) two
 
-  pub value_load : (size : Size) (p : BExpr) (n : ℕ) → value p mem vars ≡ Some n → value (b.Load size p) mem vars ≡ loaded size mem n
-  value_load size p n one = ap (λ (f : Value). f mem vars) (fold_load value_step size p) ∙ ap (λ z. then_some z (loaded size mem)) one
+  pub value_load : (size : Size) (p : BExpr) (n : ℕ) → value p mem vars ≡ Some n
+      → value (b.Load size p) mem vars ≡ loaded size mem n
+  value_load size p n one = ap (λ (f : Value). f mem vars) (fold_load value_step size p)
+      ∙ ap (λ z. then_some z (loaded size mem)) one
 
-  pub value_table : (size : Size) (bytes : List ℕ) (p : BExpr) (n : ℕ) → value p mem vars ≡ Some n → value (b.Table size bytes p) mem vars ≡ entry size bytes n
-  value_table size bytes p n one = ap (λ (f : Value). f mem vars) (fold_table value_step size bytes p) ∙ ap (λ z. then_some z (entry size bytes)) one
+  pub value_table : (size : Size) (bytes : List ℕ) (p : BExpr) (n : ℕ) → value p mem vars ≡ Some n
+      → value (b.Table size bytes p) mem vars ≡ entry size bytes n
+  value_table size bytes p n one = ap (λ (f : Value). f mem vars) (fold_table value_step size bytes p)
+      ∙ ap (λ z. then_some z (entry size bytes)) one
 
 module _ (xs : List ℕ) where
   pub locals_lit : (n : ℕ) → expr_locals (b.Lit n) xs ≡ xs
   locals_lit n = ap (λ (f : Locals). f xs) (fold_lit expr_locals_step n)
 
   pub locals_var : (x : ℕ) → is_known xs x ≡ true → expr_locals (b.Var x) xs ≡ xs
-  locals_var x known = ap (λ (f : Locals). f xs) (fold_var expr_locals_step x) ∙ ap (λ (is : Bool). if is then xs else xs ++ x ∷ []) known
+  locals_var x known = ap (λ (f : Locals). f xs) (fold_var expr_locals_step x)
+      ∙ ap (λ (is : Bool). if is then xs else xs ++ x ∷ []) known
 
   pub locals_bin : (op : BOp) (p q : BExpr) → expr_locals p xs ≡ xs → expr_locals q xs ≡ xs → expr_locals (b.Bin op p q) xs ≡ xs
   locals_bin op p q one two = ap (λ (f : Locals). f xs) (fold_bin expr_locals_step op p q) ∙ ap (expr_locals q) one ∙ two
@@ -71,7 +80,8 @@ module _ (xs : List ℕ) where
   pub locals_load : (size : Size) (p : BExpr) → expr_locals p xs ≡ xs → expr_locals (b.Load size p) xs ≡ xs
   locals_load size p one = ap (λ (f : Locals). f xs) (fold_load expr_locals_step size p) ∙ one
 
-  pub locals_table : (size : Size) (bytes : List ℕ) (p : BExpr) → expr_locals p xs ≡ xs → expr_locals (b.Table size bytes p) xs ≡ xs
+  pub locals_table : (size : Size) (bytes : List ℕ) (p : BExpr) → expr_locals p xs ≡ xs
+      → expr_locals (b.Table size bytes p) xs ≡ xs
   locals_table size bytes p one = ap (λ (f : Locals). f xs) (fold_table expr_locals_step size bytes p) ∙ one
 
 -- the operation that stands for a model's is the same on words

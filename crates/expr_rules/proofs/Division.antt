@@ -31,4 +31,5 @@ module _ (m n : ℕ) (some : 1 ≤ n) where
   quotient_room = let whole = div-add-mod m n in let less = left_less in omega (arith, whole, less)
 
   pub quotient_most : (most : ℕ) → m ≤ most → m / n ≤ most / n
-  quotient_most most small = let times = div-mul-le_self m n in le-div (m / n) most n (omega (arith, some)) (omega (arith, times, small))
+  quotient_most most small = let times = div-mul-le_self m n in
+      le-div (m / n) most n (omega (arith, some)) (omega (arith, times, small))

@@ -1,5 +1,6 @@
 -- Flags: numbers that are 0 or 1, and lists of their facts.
-use Rattle.std.proofs.Common.{◌≡◌, refl, subst, arith, ℕ, zero, suc, ◌≤◌, nat_eq, nat_lt, bit_and, bit_or, Bool, true, false, ◌&&◌, ◌||◌, List, [], ◌∷◌, ◌++◌, Some, None, slice_get}
+use Rattle.std.proofs.Common.{◌≡◌, refl, subst, arith, ℕ, zero, suc, ◌≤◌, nat_eq, nat_lt, bit_and, bit_or, Bool, true, false}
+use Rattle.std.proofs.Common.{◌&&◌, ◌||◌, List, [], ◌∷◌, ◌++◌, Some, None, slice_get}
 use Rattle.model_syntax.specs.Operation.{holds}
 use Rattle.model_syntax.specs.Value.{flag, is_true}
 use Rattle.model_syntax.specs.declared.expr.Cmp.{Cmp}

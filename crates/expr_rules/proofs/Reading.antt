@@ -23,7 +23,8 @@ Read sem top code v env mem vars = (value code mem vars ≡ Some (sem env)) × (
 pub read_done : (R : Fact) (ps : List Param) (scope : Scope) (before mid : Context) → Came R ps scope before mid
     → (sem : Env → ℕ) (t : Scalar) (at top : ℕ) (code : BExpr) → top ≤ top_of t
     → ((xs : List ℕ) → HasLocals before xs → expr_locals code xs ≡ xs)
-    → ((call : Call) (v : ℕ → ℕ) (env : Env) (mem : Bytes) (vars : Vars) → FitsBy call v mid env mem (local_at vars) → R v env mem vars → (value code mem vars ≡ Some (sem env)) × (sem env ≤ top))
+    → ((call : Call) (v : ℕ → ℕ) (env : Env) (mem : Bytes) (vars : Vars) → FitsBy call v mid env mem (local_at vars)
+    → R v env mem vars → (value code mem vars ≡ Some (sem env)) × (sem env ≤ top))
     → Yields (ExprDone ps scope sem t before) (fresh_result at top code mid)
 read_done R ps scope before mid came sem t at top code less locals is =
     fresh_done (And R (Read sem top code)) ps scope before mid read sem t at top code less locals (λ v env mem vars r. r.1)

@@ -1,5 +1,6 @@
 -- Values of sums, and of forms that are numbers.
-use Rattle.std.proofs.Common.{◌≡◌, refl, ◌∙◌, ap, arith, ℕ, ◌≤◌, Bool, true, false, ◌&&◌, nat_abs, nat_eq, List, [], ◌∷◌, length, Option, Some, None, ℤ, pos, negsuc, ◌≤ℤ◌, ◌+ℤ◌, ◌*ℤ◌}
+use Rattle.std.proofs.Common.{◌≡◌, refl, ◌∙◌, ap, arith, ℕ, ◌≤◌, Bool, true, false, ◌&&◌, nat_abs, nat_eq, List, [], ◌∷◌, length}
+use Rattle.std.proofs.Common.{Option, Some, None, ℤ, pos, negsuc, ◌≤ℤ◌, ◌+ℤ◌, ◌*ℤ◌}
 use Rattle.std.specs.Int.Signed.{le_z}
 use Rattle.std.proofs.lemmas.Bool.Decides.{nat_tests}
 use Rattle.std.proofs.lemmas.Int.{ints}
@@ -59,7 +60,8 @@ range_is low high n k is = by (le_z (pos low) k && le_z k (pos high)) refl where
       whole k size least greatest
     where
       whole : (z : ℤ) → nat_abs z ≡ n → pos low ≤ℤ z → z ≤ℤ pos high → (low ≤ n) × (n ≤ high) × (z ≡ pos n)
-      whole (pos m) size least greatest = let same : m ≡ n = size in (omega (arith, ints, least, same), omega (arith, ints, greatest, same), ap pos same)
+      whole (pos m) size least greatest = let same : m ≡ n = size in
+          (omega (arith, ints, least, same), omega (arith, ints, greatest, same), ap pos same)
       whole (negsuc m) size least greatest = absurd (omega (arith, ints, least))
   by false e = absurd (let bad : None ≡ Some n = rw e at is in cc)
 

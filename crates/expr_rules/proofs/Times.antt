@@ -23,7 +23,8 @@ module _ (v : ℕ → ℕ) (F : LinearForm) (m n : ℕ) (form : value_at v F ≡
   pub multiple_small : pos 0 ≤ℤ value_at v (sum_of (pos most) ((neg_ℤ k, F) ∷ [])) → n * m ≤ 4294967295
   multiple_small shown =
       let whole = value_sum v (pos most) ((neg_ℤ k, F) ∷ []) in
-      let product : neg_ℤ k *ℤ value_at v F ≡ neg_ℤ (pos (n * m)) = ap (λ (z : ℤ). neg_ℤ z *ℤ value_at v F) is ∙ ap (λ (z : ℤ). neg_ℤ (pos n) *ℤ z) form ∙ neg_product n m in
+      let product : neg_ℤ k *ℤ value_at v F ≡ neg_ℤ (pos (n * m)) = ap (λ (z : ℤ). neg_ℤ z *ℤ value_at v F) is
+      ∙ ap (λ (z : ℤ). neg_ℤ (pos n) *ℤ z) form ∙ neg_product n m in
       omega (arith, ints, shown, whole, product)
 
   pub multiple_value : value_at v (times k F) ≡ pos (n * m)

@@ -54,7 +54,8 @@ pub record HasLocals (c : Context) (xs : List ℕ) : Type 0 where
   pub lengths : (i l : ℕ) (k : Clause) → slice_get c.clauses i ≡ Some k → k.length_local ≡ Some l → is_known xs l ≡ true
 
 -- what an instance gives in a state that fits: an expression of this type has the value n
-pub record ExprRan (call : Call) (n : ℕ) (t : Scalar) (before : Context) (out : ExprOut) (after : Context) (numbers : ℕ → ℕ) (env : Env) (mem : Bytes) (vars : Vars) : Type 0 where
+pub record ExprRan (call : Call) (n : ℕ) (t : Scalar) (before : Context) (out : ExprOut) (after : Context) (numbers : ℕ → ℕ)
+    (env : Env) (mem : Bytes) (vars : Vars) : Type 0 where
   -- each symbol of the context before has the number that it had
   pub others : ℕ → ℕ
   pub agree : Agree (length before.tops) numbers others
@@ -66,7 +67,8 @@ pub record ExprRan (call : Call) (n : ℕ) (t : Scalar) (before : Context) (out 
   pub no : is_true n ≡ false → AllHold others out.no
 
 -- what is right for an expression of this type, whose value in each environment is `sem`
-pub record ExprDone (ps : List Param) (scope : Scope) (sem : Env → ℕ) (t : Scalar) (before : Context) (out : ExprOut) (after : Context) : Type 0 where
+pub record ExprDone (ps : List Param) (scope : Scope) (sem : Env → ℕ) (t : Scalar) (before : Context) (out : ExprOut)
+    (after : Context) : Type 0 where
   pub extends : Extends before after
   pub consistent : IsConsistent after
   pub scoped : IsScoped ps scope after
@@ -76,7 +78,8 @@ pub record ExprDone (ps : List Param) (scope : Scope) (sem : Env → ℕ) (t : S
   -- no other local occurs in the code
   pub locals : (xs : List ℕ) → HasLocals before xs → expr_locals out.code xs ≡ xs
   -- where the names in scope have values of their types
-  pub runs : (lengths : Name → ℕ) (call : Call) (numbers : ℕ → ℕ) (env : Env) (mem : Bytes) (vars : Vars) → IsTyped lengths scope env
+  pub runs : (lengths : Name → ℕ) (call : Call) (numbers : ℕ → ℕ) (env : Env) (mem : Bytes) (vars : Vars)
+      → IsTyped lengths scope env
       → FitsBy call numbers before env mem (local_at vars) → ExprRan call (sem env) t before out after numbers env mem vars
 
 -- where there is an answer, it is so

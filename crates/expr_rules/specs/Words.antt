@@ -1,6 +1,7 @@
 -- The words that rules are made of. A rule says what it gives in a context, and the context after; or it has a first fault: a
 -- node and a condition, or a node and the place of a certificate that does not close its goal.
-use Rattle.std.specs.Prelude.{ℕ, ◌+◌, ℤ, pos, nat_abs, nat_eq, Bool, true, false, ◌&&◌, List, [], ◌∷◌, length, sum, map, Option, Some, None, option_and_then, Result, Ok, Err, if◌then◌else◌}
+use Rattle.std.specs.Prelude.{ℕ, ◌+◌, ℤ, pos, nat_abs, nat_eq, Bool, true, false, ◌&&◌, List, [], ◌∷◌, length, sum, map, Option}
+use Rattle.std.specs.Prelude.{Some, None, option_and_then, Result, Ok, Err, if◌then◌else◌}
 use Rattle.std.specs.Int.Signed.{le_z}
 use Rattle.rup_base.specs.Answers.{and_then_with}
 use Rattle.rup_base.specs.declared.refusal.Refusal.{Refusal}

@@ -189,7 +189,10 @@ fn by_rule<B: Book>(
 ) -> Result<ExprOut, Fail>
     requires numbered { next.old ≡ at + 1 }
     requires small { next.old + words.sizes (map (spec.judged (B.turn book.now)) kids.now) ≤ 20_000 }
-    ensures row { AnswersWith result ctx.new ((if spec.is_rewrite step.now.rule then spec.rewritten (B.turn book.now) step.now (map (spec.judged (B.turn book.now)) kids.now) at e.now else spec.parts step.now (map (spec.judged (B.turn book.now)) kids.now) at (out-Expr e.now)) ctx.old) }
+    ensures row { AnswersWith result ctx.new
+        ((if spec.is_rewrite step.now.rule
+        then spec.rewritten (B.turn book.now) step.now (map (spec.judged (B.turn book.now)) kids.now) at e.now
+        else spec.parts step.now (map (spec.judged (B.turn book.now)) kids.now) at (out-Expr e.now)) ctx.old) }
     ensures counted { OnOk result (next.new ≡ next.old + words.sizes (map (spec.judged (B.turn book.now)) kids.now)) }
 {
     if is_rewrite(step.rule) {
@@ -212,7 +215,8 @@ fn rewritten<B: Book>(
 ) -> Result<ExprOut, Fail>
     requires numbered { next.old ≡ at + 1 }
     requires small { next.old + words.sizes (map (spec.judged (B.turn book.now)) kids.now) ≤ 20_000 }
-    ensures row { AnswersWith result ctx.new (spec.rewritten (B.turn book.now) step.now (map (spec.judged (B.turn book.now)) kids.now) at e.now ctx.old) }
+    ensures row { AnswersWith result ctx.new
+        (spec.rewritten (B.turn book.now) step.now (map (spec.judged (B.turn book.now)) kids.now) at e.now ctx.old) }
     ensures counted { OnOk result (next.new ≡ next.old + words.sizes (map (spec.judged (B.turn book.now)) kids.now)) }
 {
     let Some(number) = rw::step_of(step.args.as_slice()) else {
@@ -237,7 +241,8 @@ fn parts<B: Book>(
 ) -> Result<ExprOut, Fail>
     requires numbered { next.old ≡ at + 1 }
     requires small { next.old + words.sizes (map (spec.judged (B.turn book.now)) kids.now) ≤ 20_000 }
-    ensures row { AnswersWith result ctx.new (spec.parts step.now (map (spec.judged (B.turn book.now)) kids.now) at (out-Expr e.now) ctx.old) }
+    ensures row { AnswersWith result ctx.new
+        (spec.parts step.now (map (spec.judged (B.turn book.now)) kids.now) at (out-Expr e.now) ctx.old) }
     ensures counted { OnOk result (next.new ≡ next.old + words.sizes (map (spec.judged (B.turn book.now)) kids.now)) }
 {
     match e {
@@ -332,7 +337,8 @@ fn two_kids<B: Book>(
 ) -> Result<(ExprOut, ExprOut), Fail>
     requires numbered { next.old ≡ at + 1 }
     requires small { next.old + words.sizes (map (spec.judged (B.turn book.now)) kids.now) ≤ 20_000 }
-    ensures row { AnswersWith result ctx.new (words.two_kids (map (spec.judged (B.turn book.now)) kids.now) at x.now y.now ctx.old) }
+    ensures row { AnswersWith result ctx.new
+        (words.two_kids (map (spec.judged (B.turn book.now)) kids.now) at x.now y.now ctx.old) }
     ensures counted { OnOk result (next.new ≡ next.old + words.sizes (map (spec.judged (B.turn book.now)) kids.now)) }
 {
     match kids {

@@ -58,7 +58,8 @@ walk_step (f.If x a b) = record {
 walk_step (f.While a x b) = record {
   need = λ v k. turned (walks a) x (walks b) v k;
   points = λ l. record { writes = None; after = l }
-      ∷ ((walks a).points (λ v. tested (walks a) x (walks b) v (l v)) ++ (walks b).points (λ v. turned (walks a) x (walks b) v (l v)));
+      ∷ ((walks a).points (λ v. tested (walks a) x (walks b) v (l v))
+      ++ (walks b).points (λ v. turned (walks a) x (walks b) v (l v)));
 }
 
 abbrev pub walk : FStmt → Walk

@@ -28,18 +28,23 @@ sets price x v s = Ok (with_var x v (spend price s))
 abbrev pub turns : ℕ → Rule → ℕ → ℕ → Rule → Rule
 turns zero before x price body s = Err OutOfFuel
 turns (suc n) before x price body s =
-    and_then (before s) (λ t. given (get t.vars x) (λ v. choose v (fuelled (λ u. and_then (body u) (turns n before x price body))) (λ u. Ok u) (spend price t)))
+    and_then (before s) (λ t. given (get t.vars x)
+    (λ v. choose v (fuelled (λ u. and_then (body u) (turns n before x price body))) (λ u. Ok u) (spend price t)))
 
 -- a statement over the bytes of the tables
 abbrev pub run_step : Weights → List (List ℕ) → FStmt-F Rule → Rule
 run_step w tables (f.Lit x n) = fuelled (λ s. sets w.literal x n s)
 run_step w tables (f.Copy x y) = fuelled (λ s. given (get s.vars y) (λ v. sets w.variable x v s))
-run_step w tables (f.Bin op x y z) = fuelled (λ s. given (get s.vars y) (λ a. given (get s.vars z) (λ b. sets w.operation x (apply op a b) s)))
-run_step w tables (f.Load size x y) = fuelled (λ s. given (get s.vars y) (λ at. given (loaded size s.mem at) (λ v. sets w.load x v s)))
+run_step w tables (f.Bin op x y z) =
+    fuelled (λ s. given (get s.vars y) (λ a. given (get s.vars z) (λ b. sets w.operation x (apply op a b) s)))
+run_step w tables (f.Load size x y) =
+    fuelled (λ s. given (get s.vars y) (λ at. given (loaded size s.mem at) (λ v. sets w.load x v s)))
 run_step w tables (f.Table size x k y) =
-    fuelled (λ s. given (get s.vars y) (λ at. given (slice_get tables k) (λ bytes. given (entry size bytes at) (λ v. sets w.table x v s))))
+    fuelled (λ s. given (get s.vars y)
+    (λ at. given (slice_get tables k) (λ bytes. given (entry size bytes at) (λ v. sets w.table x v s))))
 run_step w tables (f.Store size x y) =
-    fuelled (λ s. given (get s.vars x) (λ at. given (get s.vars y) (λ v. given (store size s.mem at v) (λ mem. Ok (with_mem mem (spend w.store s))))))
+    fuelled (λ s. given (get s.vars x)
+    (λ at. given (get s.vars y) (λ v. given (store size s.mem at v) (λ mem. Ok (with_mem mem (spend w.store s))))))
 run_step w tables (f.If x a b) = fuelled (λ s. given (get s.vars x) (λ v. choose v (in_turn a) (in_turn b) (spend w.test s)))
 run_step w tables (f.While a x b) = λ s. fuelled (turns s.fuel (in_turn a) x w.turn (in_turn b)) s
 

@@ -1,6 +1,7 @@
 -- The paths of three-address code. A variable is live where some path from there reads it before it writes it
 -- (A. W. Appel, Modern Compiler Implementation, chapter 10, liveness analysis).
-use Rattle.std.specs.Prelude.{◌≡◌, ℕ, zero, suc, Bool, true, false, not, ◌&&◌, ◌||◌, nat_eq, List, [], ◌∷◌, ◌++◌, map, Option, Some, None, if◌then◌else◌, slice_get}
+use Rattle.std.specs.Prelude.{◌≡◌, ℕ, zero, suc, Bool, true, false, not, ◌&&◌, ◌||◌, nat_eq, List, [], ◌∷◌, ◌++◌, map, Option}
+use Rattle.std.specs.Prelude.{Some, None, if◌then◌else◌, slice_get}
 use Rattle.flat_lang.specs.declared.flat.FStmt.{FStmt, FStmt-F, fold-FStmt}
 use Rattle.flat_lang.specs.declared.flat.FStmt.TheOpen as f
 use Rattle.flat_lang.specs.declared.flat.Flat.{Flat}
@@ -36,7 +37,8 @@ loops (suc n) test body = both test ([] ∷ both body (loops n test body))
 -- whether a path takes what v holds at its start: it reads v before it writes v, or does neither and what follows takes it
 abbrev pub takes : ℕ → List Event → Bool → Bool
 takes v [] follows = follows
-takes v (e ∷ es) follows = if e.written then (not (nat_eq v e.var) && takes v es follows) else (nat_eq v e.var || takes v es follows)
+takes v (e ∷ es) follows = if e.written then (not (nat_eq v e.var) && takes v es follows)
+    else (nat_eq v e.var || takes v es follows)
 
 -- whether one of the paths does
 abbrev pub some_takes : ℕ → Ways → Bool → Bool
@@ -107,4 +109,5 @@ LiveAtStart flat v = (n : ℕ) × (some_takes v (flat_ways (suc n) flat) false �
 
 -- The same behind the statement of a number in preorder.
 abbrev pub LiveAfter : Flat → ℕ → ℕ → Type 0
-LiveAfter flat i v = (n : ℕ) × (step : Step) × ((slice_get (flat_steps (suc n) flat) i ≡ Some step) × (some_takes v step.after false ≡ true))
+LiveAfter flat i v = (n : ℕ) × (step : Step)
+    × ((slice_get (flat_steps (suc n) flat) i ≡ Some step) × (some_takes v step.after false ≡ true))

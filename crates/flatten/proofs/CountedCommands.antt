@@ -13,7 +13,8 @@ use Rattle.flat_lang.specs.declared.flat.FStmt.TheOpen as o
 use Rattle.flat_lang.specs.declared.flat.FStmt.TheVariants as f
 use Rattle.flatten.specs.Code.{expr_code, CmdCode, cmd_code, cmd_step, in_turn, place}
 use Rattle.bed_syntax.specs.Tables.{expr_tables, cmd_tables, cmd_tables_step}
-use Rattle.flatten.proofs.Counted.{CmdCounts, none_counts, both_count, leaf_counts, if_counts, while_counts, then_one, recounted, expr_same}
+use Rattle.flatten.proofs.Counted.{CmdCounts, none_counts, both_count, leaf_counts, if_counts, while_counts, then_one, recounted}
+use Rattle.flatten.proofs.Counted.{expr_same}
 
 module _ (w : Weights) (same : w.variable ≡ w.set) (names : List ℕ) where
   abbrev pub CmdSame : Cmd → Type 0
@@ -27,20 +28,24 @@ module _ (w : Weights) (same : w.variable ≡ w.set) (names : List ℕ) where
 
   abbrev StepSame : Cmd-F Cmd → Type 0
   StepSame y =
-      CmdCounts w same (cmd_step names (map-Cmd Cmd CmdCode (cmd_code names) y)) (cmd_names_step (map-Cmd Cmd (List Name) cmd_names y)) (cmd_weight_step w (map-Cmd Cmd ℕ (cmd_weight w) y))
+      CmdCounts w same (cmd_step names (map-Cmd Cmd CmdCode (cmd_code names) y))
+      (cmd_names_step (map-Cmd Cmd (List Name) cmd_names y)) (cmd_weight_step w (map-Cmd Cmd ℕ (cmd_weight w) y))
       (cmd_size_step (map-Cmd Cmd ℕ cmd_size y)) (cmd_tables_step (map-Cmd Cmd (List (List ℕ)) cmd_tables y))
 
   abbrev Each : (Cmd → ℕ) → List Proved → ℕ
   Each of cs = sum (map of (map (λ p. p.0) cs))
 
   all_same : (cs : List Proved)
-      → CmdCounts w same (in_turn (map (cmd_code names) (map (λ p. p.0) cs))) (joined (map cmd_names (map (λ p. p.0) cs))) (Each (cmd_weight w) cs) (Each cmd_size cs)
+      → CmdCounts w same (in_turn (map (cmd_code names) (map (λ p. p.0) cs))) (joined (map cmd_names (map (λ p. p.0) cs)))
+      (Each (cmd_weight w) cs) (Each cmd_size cs)
       (joined (map cmd_tables (map (λ p. p.0) cs)))
   all_same [] = record { counts = λ k. none_counts w same; tables = refl }
   all_same (a ∷ cs) =
       let rest = all_same cs in
-      let heavy : Each (cmd_weight w) (a ∷ cs) ≡ cmd_weight w a.0 + Each (cmd_weight w) cs = sum_by-cons (λ n. n) (cmd_weight w a.0) (map (cmd_weight w) (map (λ p. p.0) cs)) in
-      let many : Each cmd_size (a ∷ cs) ≡ cmd_size a.0 + Each cmd_size cs = sum_by-cons (λ n. n) (cmd_size a.0) (map cmd_size (map (λ p. p.0) cs)) in
+      let heavy : Each (cmd_weight w) (a ∷ cs) ≡ cmd_weight w a.0 + Each (cmd_weight w) cs =
+      sum_by-cons (λ n. n) (cmd_weight w a.0) (map (cmd_weight w) (map (λ p. p.0) cs)) in
+      let many : Each cmd_size (a ∷ cs) ≡ cmd_size a.0 + Each cmd_size cs =
+      sum_by-cons (λ n. n) (cmd_size a.0) (map cmd_size (map (λ p. p.0) cs)) in
       let others : CmdCode = in_turn (map (cmd_code names) (map (λ p. p.0) cs)) in
       let named : List Name = joined (map cmd_names (map (λ p. p.0) cs)) in
       record {
@@ -48,9 +53,11 @@ module _ (w : Weights) (same : w.variable ≡ w.set) (names : List ℕ) where
             let next : ℕ = k + length (cmd_code names a.0).tables in
             let fs : List FStmt = (cmd_code names a.0).code k in
             let gs : List FStmt = others.code next in
-            recounted w same (fs ++ gs) (cmd_names a.0 ++ named) (cmd_names a.0 ++ named) (cmd_weight w a.0 + Each (cmd_weight w) cs) (Each (cmd_weight w) (a ∷ cs)) (cmd_size a.0 + Each cmd_size cs)
+            recounted w same (fs ++ gs) (cmd_names a.0 ++ named) (cmd_names a.0 ++ named)
+            (cmd_weight w a.0 + Each (cmd_weight w) cs) (Each (cmd_weight w) (a ∷ cs)) (cmd_size a.0 + Each cmd_size cs)
             (Each cmd_size (a ∷ cs)) refl (sym heavy) (omega arith)
-            (both_count w same fs gs (cmd_names a.0) named (cmd_weight w a.0) (Each (cmd_weight w) cs) (cmd_size a.0) (Each cmd_size cs) (a.1.counts k) (rest.counts next));
+            (both_count w same fs gs (cmd_names a.0) named (cmd_weight w a.0) (Each (cmd_weight w) cs) (cmd_size a.0)
+            (Each cmd_size cs) (a.1.counts k) (rest.counts next));
         tables = ap (λ r. r ++ others.tables) a.1.tables ∙ ap (λ r. cmd_tables a.0 ++ r) rest.tables;
       }
 
@@ -61,10 +68,12 @@ module _ (w : Weights) (same : w.variable ≡ w.set) (names : List ℕ) where
         counts = λ k.
             let fs : List FStmt = (expr_code names e).code (length names) k in
             let last : FStmt = f.Copy (place names x) (length names) in
-            recounted w same (fs ++ last ∷ []) (expr_names e ++ []) (expr_names e) (expr_weight w e + w.variable) (expr_weight w e + w.set) (1 + expr_size e) (1 + expr_size e)
+            recounted w same (fs ++ last ∷ []) (expr_names e ++ []) (expr_names e) (expr_weight w e + w.variable)
+            (expr_weight w e + w.set) (1 + expr_size e) (1 + expr_size e)
             (append-nil (expr_names e)) (omega arith) (omega arith)
             (then_one w same fs last (expr_names e) [] (expr_weight w e) w.variable (expr_size e) (a.counts (length names) k)
-            (leaf_counts w same last (o.Copy (place names x) (length names)) [] w.variable (f.rolls-Copy (place names x) (length names)) refl refl refl));
+            (leaf_counts w same last (o.Copy (place names x) (length names)) [] w.variable
+            (f.rolls-Copy (place names x) (length names)) refl refl refl));
         tables = a.tables;
       }
   step_same (c.Store size d e) =
@@ -76,13 +85,18 @@ module _ (w : Weights) (same : w.variable ≡ w.set) (names : List ℕ) where
             let fs : List FStmt = (expr_code names d).code (length names) k in
             let gs : List FStmt = (expr_code names e).code (length names + 1) next in
             let last : FStmt = f.Store size (length names) (length names + 1) in
-            recounted w same (fs ++ (gs ++ last ∷ [])) (expr_names d ++ (expr_names e ++ store_names size)) (expr_names d ++ (expr_names e ++ store_names size))
-            (expr_weight w d + (expr_weight w e + w.store)) (expr_weight w d + expr_weight w e + w.store) (expr_size d + (1 + expr_size e)) (1 + (expr_size d + expr_size e)) refl (omega arith)
+            recounted w same (fs ++ (gs ++ last ∷ [])) (expr_names d ++ (expr_names e ++ store_names size))
+            (expr_names d ++ (expr_names e ++ store_names size))
+            (expr_weight w d + (expr_weight w e + w.store)) (expr_weight w d + expr_weight w e + w.store)
+            (expr_size d + (1 + expr_size e)) (1 + (expr_size d + expr_size e)) refl (omega arith)
             (omega arith)
-            (both_count w same fs (gs ++ last ∷ []) (expr_names d) (expr_names e ++ store_names size) (expr_weight w d) (expr_weight w e + w.store) (expr_size d) (1 + expr_size e)
+            (both_count w same fs (gs ++ last ∷ []) (expr_names d) (expr_names e ++ store_names size) (expr_weight w d)
+            (expr_weight w e + w.store) (expr_size d) (1 + expr_size e)
             (a.counts (length names) k)
-            (then_one w same gs last (expr_names e) (store_names size) (expr_weight w e) w.store (expr_size e) (b.counts (length names + 1) next)
-            (leaf_counts w same last (o.Store size (length names) (length names + 1)) (store_names size) w.store (f.rolls-Store size (length names) (length names + 1)) refl refl refl)));
+            (then_one w same gs last (expr_names e) (store_names size) (expr_weight w e) w.store (expr_size e)
+            (b.counts (length names + 1) next)
+            (leaf_counts w same last (o.Store size (length names) (length names + 1)) (store_names size) w.store
+            (f.rolls-Store size (length names) (length names + 1)) refl refl refl)));
         tables = ap (λ r. r ++ (expr_code names e).tables) a.tables ∙ ap (λ r. expr_tables d ++ r) b.tables;
       }
   step_same (c.Cond e p q) =
@@ -94,12 +108,16 @@ module _ (w : Weights) (same : w.variable ≡ w.set) (names : List ℕ) where
             let fs : List FStmt = (expr_code names e).code (length names) k in
             let sides : List FStmt = f.If (length names) ((cmd_code names p.0).code next) ((cmd_code names q.0).code last) ∷ [] in
             let named : List Name = cmd_names p.0 ++ cmd_names q.0 in
-            recounted w same (fs ++ sides) (expr_names e ++ named) (expr_names e ++ named) (expr_weight w e + (w.test + (cmd_weight w p.0 + cmd_weight w q.0)))
-            (expr_weight w e + w.test + cmd_weight w p.0 + cmd_weight w q.0) (expr_size e + (1 + (cmd_size p.0 + cmd_size q.0))) (1 + (expr_size e + (cmd_size p.0 + cmd_size q.0))) refl (omega arith)
+            recounted w same (fs ++ sides) (expr_names e ++ named) (expr_names e ++ named)
+            (expr_weight w e + (w.test + (cmd_weight w p.0 + cmd_weight w q.0)))
+            (expr_weight w e + w.test + cmd_weight w p.0 + cmd_weight w q.0) (expr_size e + (1 + (cmd_size p.0 + cmd_size q.0)))
+            (1 + (expr_size e + (cmd_size p.0 + cmd_size q.0))) refl (omega arith)
             (omega arith)
-            (both_count w same fs sides (expr_names e) named (expr_weight w e) (w.test + (cmd_weight w p.0 + cmd_weight w q.0)) (expr_size e) (1 + (cmd_size p.0 + cmd_size q.0))
+            (both_count w same fs sides (expr_names e) named (expr_weight w e) (w.test + (cmd_weight w p.0 + cmd_weight w q.0))
+            (expr_size e) (1 + (cmd_size p.0 + cmd_size q.0))
             (a.counts (length names) k)
-            (if_counts w same (length names) ((cmd_code names p.0).code next) ((cmd_code names q.0).code last) (cmd_names p.0) (cmd_names q.0) (cmd_weight w p.0) (cmd_weight w q.0) (cmd_size p.0)
+            (if_counts w same (length names) ((cmd_code names p.0).code next) ((cmd_code names q.0).code last) (cmd_names p.0)
+            (cmd_names q.0) (cmd_weight w p.0) (cmd_weight w q.0) (cmd_size p.0)
             (cmd_size q.0) (p.1.counts next) (q.1.counts last)));
         tables = ap (λ r. r ++ ((cmd_code names p.0).tables ++ (cmd_code names q.0).tables)) a.tables
             ∙ ap (λ r. expr_tables e ++ (r ++ (cmd_code names q.0).tables)) p.1.tables
@@ -110,7 +128,8 @@ module _ (w : Weights) (same : w.variable ≡ w.set) (names : List ℕ) where
       let many : ℕ = Each cmd_size cs in
       record {
         counts = λ k.
-            recounted w same ((in_turn (map (cmd_code names) (map (λ p. p.0) cs))).code k) (joined (map cmd_names (map (λ p. p.0) cs))) (joined (map cmd_names (map (λ p. p.0) cs)))
+            recounted w same ((in_turn (map (cmd_code names) (map (λ p. p.0) cs))).code k)
+            (joined (map cmd_names (map (λ p. p.0) cs))) (joined (map cmd_names (map (λ p. p.0) cs)))
             (Each (cmd_weight w) cs) (Each (cmd_weight w) cs) many (1 + many) refl refl (omega arith) (all.counts k);
         tables = all.tables;
       }
@@ -121,9 +140,12 @@ module _ (w : Weights) (same : w.variable ≡ w.set) (names : List ℕ) where
             let next : ℕ = k + length (expr_code names e).tables in
             let fs : List FStmt = (expr_code names e).code (length names) k in
             let gs : List FStmt = (cmd_code names p.0).code next in
-            recounted w same (f.While fs (length names) gs ∷ []) (expr_names e ++ cmd_names p.0) (expr_names e ++ cmd_names p.0) (expr_weight w e + (w.turn + cmd_weight w p.0))
-            (expr_weight w e + w.turn + cmd_weight w p.0) (1 + (expr_size e + cmd_size p.0)) (1 + (expr_size e + cmd_size p.0)) refl (omega arith) (omega arith)
-            (while_counts w same (length names) fs gs (expr_names e) (cmd_names p.0) (expr_weight w e) (cmd_weight w p.0) (expr_size e) (cmd_size p.0) (a.counts (length names) k) (p.1.counts next));
+            recounted w same (f.While fs (length names) gs ∷ []) (expr_names e ++ cmd_names p.0) (expr_names e ++ cmd_names p.0)
+            (expr_weight w e + (w.turn + cmd_weight w p.0))
+            (expr_weight w e + w.turn + cmd_weight w p.0) (1 + (expr_size e + cmd_size p.0)) (1 + (expr_size e + cmd_size p.0))
+            refl (omega arith) (omega arith)
+            (while_counts w same (length names) fs gs (expr_names e) (cmd_names p.0) (expr_weight w e) (cmd_weight w p.0)
+            (expr_size e) (cmd_size p.0) (a.counts (length names) k) (p.1.counts next));
         tables = ap (λ r. r ++ (cmd_code names p.0).tables) a.tables ∙ ap (λ r. expr_tables e ++ r) p.1.tables;
       }
 

@@ -1,6 +1,8 @@
 -- No local stands twice among the locals of a command.
-use Rattle.std.proofs.Common.{◌≡◌, refl, ap, subst, ◌∙◌, arith, ℕ, zero, suc, ◌<◌, min, Bool, true, false, ◌||◌, nat_eq, List, [], ◌∷◌, ◌++◌, length, map, if◌then◌else◌}
-use Rattle.bed_syntax.specs.Shape.{is_known, noted, all_noted, numbers, locals_of, expr_locals, expr_locals_step, cmd_locals, cmd_locals_step, in_turn}
+use Rattle.std.proofs.Common.{◌≡◌, refl, ap, subst, ◌∙◌, arith, ℕ, zero, suc, ◌<◌, min, Bool, true, false, ◌||◌, nat_eq, List, []}
+use Rattle.std.proofs.Common.{◌∷◌, ◌++◌, length, map, if◌then◌else◌}
+use Rattle.bed_syntax.specs.Shape.{is_known, noted, all_noted, numbers, locals_of, expr_locals, expr_locals_step, cmd_locals}
+use Rattle.bed_syntax.specs.Shape.{cmd_locals_step, in_turn}
 use Rattle.bed_syntax.specs.declared.expression.BExpr.{BExpr, BExpr-F, map-BExpr, roll-BExpr, fold-roll-BExpr, ind-BExpr}
 use Rattle.bed_syntax.specs.declared.expression.BExpr.TheOpen as e
 use Rattle.bed_syntax.specs.declared.command.Cmd.{Cmd, Cmd-F, map-Cmd, roll-Cmd, fold-roll-Cmd, ind-Cmd}
@@ -63,18 +65,21 @@ ExprProved = (a : BExpr) × Keeps (expr_locals a)
 abbrev bare_expr : BExpr-F ExprProved → BExpr-F BExpr
 bare_expr y = map-BExpr ExprProved BExpr (λ p. p.0) y
 
-expr_step_keeps : (y : BExpr-F ExprProved) → Keeps (expr_locals_step (map-BExpr BExpr (List ℕ → List ℕ) expr_locals (bare_expr y)))
+expr_step_keeps : (y : BExpr-F ExprProved)
+    → Keeps (expr_locals_step (map-BExpr BExpr (List ℕ → List ℕ) expr_locals (bare_expr y)))
 expr_step_keeps (e.Lit n) ms unique = unique
 expr_step_keeps (e.Var x) ms unique = unique_noted x ms unique
 expr_step_keeps (e.Bin op a b) ms unique = b.1 (expr_locals a.0 ms) (a.1 ms unique)
 expr_step_keeps (e.Load size a) ms unique = a.1 ms unique
 expr_step_keeps (e.Table size bytes a) ms unique = a.1 ms unique
 
-expr_rolled : (y : BExpr-F BExpr) → Keeps (expr_locals_step (map-BExpr BExpr (List ℕ → List ℕ) expr_locals y)) → Keeps (expr_locals (roll-BExpr y))
+expr_rolled : (y : BExpr-F BExpr) → Keeps (expr_locals_step (map-BExpr BExpr (List ℕ → List ℕ) expr_locals y))
+    → Keeps (expr_locals (roll-BExpr y))
 expr_rolled y h = rw (fold-roll-BExpr (List ℕ → List ℕ) expr_locals_step y) h
 
 expr_keeps : (a : BExpr) → Keeps (expr_locals a)
-expr_keeps = ind-BExpr (λ a. Keeps (expr_locals a)) (λ z y is. subst (λ r. Keeps (expr_locals (roll-BExpr r))) is (expr_rolled (bare_expr y) (expr_step_keeps y)))
+expr_keeps = ind-BExpr (λ a. Keeps (expr_locals a))
+    (λ z y is. subst (λ r. Keeps (expr_locals (roll-BExpr r))) is (expr_rolled (bare_expr y) (expr_step_keeps y)))
 
 abbrev CmdProved : Type 0
 CmdProved = (a : Cmd) × Keeps (cmd_locals a)
@@ -89,15 +94,18 @@ all_keep (a ∷ cs) ms unique = all_keep cs (cmd_locals a.0 ms) (a.1 ms unique)
 cmd_step_keeps : (y : Cmd-F CmdProved) → Keeps (cmd_locals_step (map-Cmd Cmd (List ℕ → List ℕ) cmd_locals (bare_cmd y)))
 cmd_step_keeps (c.Set x e) ms unique = unique_noted x (expr_locals e ms) (expr_keeps e ms unique)
 cmd_step_keeps (c.Store size a e) ms unique = expr_keeps e (expr_locals a ms) (expr_keeps a ms unique)
-cmd_step_keeps (c.Cond e p q) ms unique = q.1 (cmd_locals p.0 (expr_locals e ms)) (p.1 (expr_locals e ms) (expr_keeps e ms unique))
+cmd_step_keeps (c.Cond e p q) ms unique =
+    q.1 (cmd_locals p.0 (expr_locals e ms)) (p.1 (expr_locals e ms) (expr_keeps e ms unique))
 cmd_step_keeps (c.Seq cs) ms unique = all_keep cs ms unique
 cmd_step_keeps (c.While e p) ms unique = p.1 (expr_locals e ms) (expr_keeps e ms unique)
 
-cmd_rolled : (y : Cmd-F Cmd) → Keeps (cmd_locals_step (map-Cmd Cmd (List ℕ → List ℕ) cmd_locals y)) → Keeps (cmd_locals (roll-Cmd y))
+cmd_rolled : (y : Cmd-F Cmd) → Keeps (cmd_locals_step (map-Cmd Cmd (List ℕ → List ℕ) cmd_locals y))
+    → Keeps (cmd_locals (roll-Cmd y))
 cmd_rolled y h = rw (fold-roll-Cmd (List ℕ → List ℕ) cmd_locals_step y) h
 
 cmd_keeps : (a : Cmd) → Keeps (cmd_locals a)
-cmd_keeps = ind-Cmd (λ a. Keeps (cmd_locals a)) (λ z y is. subst (λ r. Keeps (cmd_locals (roll-Cmd r))) is (cmd_rolled (bare_cmd y) (cmd_step_keeps y)))
+cmd_keeps = ind-Cmd (λ a. Keeps (cmd_locals a))
+    (λ z y is. subst (λ r. Keeps (cmd_locals (roll-Cmd r))) is (cmd_rolled (bare_cmd y) (cmd_step_keeps y)))
 
 pub locals_unique : (a : Cmd) (args : ℕ) (rets : List ℕ) → Unique (locals_of a args rets)
 locals_unique a args rets = unique_all_noted rets (cmd_locals a (numbers args)) (cmd_keeps a (numbers args) (unique_numbers args))

@@ -1,5 +1,6 @@
 -- The points of three-address code fall into groups, one for each point of the command, in their order.
-use Rattle.std.proofs.Common.{◌≡◌, refl, sym, ap, subst, ◌∙◌, arith, ℕ, zero, suc, ◌+◌, ◌<◌, ◌≤◌, Bool, true, false, ◌||◌, ◌&&◌, nat_eq, List, [], ◌∷◌, ◌++◌, append_assoc, append-nil, length, map, if◌then◌else◌, ◌⊎◌, inl, inr}
+use Rattle.std.proofs.Common.{◌≡◌, refl, sym, ap, subst, ◌∙◌, arith, ℕ, zero, suc, ◌+◌, ◌<◌, ◌≤◌, Bool, true, false, ◌||◌, ◌&&◌}
+use Rattle.std.proofs.Common.{nat_eq, List, [], ◌∷◌, ◌++◌, append_assoc, append-nil, length, map, if◌then◌else◌, ◌⊎◌, inl, inr}
 use Rattle.std.proofs.lemmas.List.{map-append}
 use Rattle.bed_syntax.specs.Intervals.{Point, some, throughout, count, from}
 use Rattle.bed_syntax.specs.Shape.{is_known}
@@ -67,7 +68,8 @@ later_place y x ys new known = by_same (nat_eq y x) refl
         absurd (omega arith)
 
 -- of the variables from k on, those of the locals are counted where their locals are, and all others
-pub count_names : (f g : Point) (room : ℕ) (ys : List ℕ) (k : ℕ) → Unique ys → ((x : ℕ) → Known ys x → f (k + place ys x) ≡ true → g x ≡ true)
+pub count_names : (f g : Point) (room : ℕ) (ys : List ℕ) (k : ℕ) → Unique ys
+    → ((x : ℕ) → Known ys x → f (k + place ys x) ≡ true → g x ≡ true)
     → count f (from k (length ys + room)) ≤ count g ys + room
 count_names f g room [] k unique h = most_counted f k (0 + room)
 count_names f g room (y ∷ ys) k unique h =
@@ -121,7 +123,8 @@ module _ (names : List ℕ) where
   all_both (p ∷ ps) qs c h g = (h.0, all_both ps qs c h.1 g)
 
   pub fits_some : (fs cs : List Point) → Fits fs cs → Under (some fs) (some cs)
-  fits_some fs [] h x known is = absurd (let bad : false ≡ true = sym (ap (λ (ps : List Point). some ps (place names x)) h) ∙ is in cc)
+  fits_some fs [] h x known is =
+      absurd (let bad : false ≡ true = sym (ap (λ (ps : List Point). some ps (place names x)) h) ∙ is in cc)
   fits_some fs (c ∷ cs) h x known is =
       let split : (some h.0 (place names x) || some h.1 (place names x)) ≡ true =
       sym (some_both h.0 h.1 (place names x)) ∙ sym (ap (λ (ps : List Point). some ps (place names x)) h.2.0) ∙ is in
@@ -129,19 +132,31 @@ module _ (names : List ℕ) where
 
   pub fits_both : (fs cs gs ds : List Point) → Fits fs cs → Fits gs ds → Fits (fs ++ gs) (cs ++ ds)
   fits_both fs [] gs ds h g = subst (λ (z : List Point). Fits (z ++ gs) ds) (sym h) g
-  fits_both fs (c ∷ cs) gs ds h g =
-      (h.0, h.1 ++ gs, (ap (λ (z : List Point). z ++ gs) h.2.0 ∙ append_assoc h.0 h.1 gs, (h.2.1.0, fits_both h.1 cs gs ds h.2.1.1 g)))
+  fits_both fs (c ∷ cs) gs ds h g = (
+    h.0,
+    h.1 ++ gs,
+    (
+      ap (λ (z : List Point). z ++ gs) h.2.0
+          ∙ append_assoc h.0 h.1 gs,
+      (h.2.1.0, fits_both h.1 cs gs ds h.2.1.1 g),
+    ),
+  )
 
   each_under : (p c : Point) → Under p c → (group : List Point) → AllUnder (map (λ (q : Point). p) group) c
   each_under p c h [] = tt
   each_under p c h (q ∷ group) = (h, each_under p c h group)
 
-  fits_each : (p c : Point) → Under p c → (fs cs : List Point) → Fits fs cs → Fits (map (λ (q : Point). p) fs) (map (λ (q : Point). c) cs)
+  fits_each : (p c : Point) → Under p c → (fs cs : List Point) → Fits fs cs
+      → Fits (map (λ (q : Point). p) fs) (map (λ (q : Point). c) cs)
   fits_each p c under fs [] h = ap (map (λ (q : Point). p)) h
   fits_each p c under fs (d ∷ cs) h = (
     map (λ (q : Point). p) h.0,
     map (λ (q : Point). p) h.1,
-    (ap (map (λ (q : Point). p)) h.2.0 ∙ map-append (λ (q : Point). p) h.0 h.1, (each_under p c under h.0, fits_each p c under h.1 cs h.2.1.1)),
+    (
+      ap (map (λ (q : Point). p)) h.2.0
+          ∙ map-append (λ (q : Point). p) h.0 h.1,
+      (each_under p c under h.0, fits_each p c under h.1 cs h.2.1.1),
+    ),
   )
 
   pub fits_throughout : (fs cs : List Point) → Fits fs cs → Fits (throughout fs) (throughout cs)
@@ -154,8 +169,10 @@ module _ (names : List ℕ) where
     abbrev variables : List ℕ
     variables = from 0 (length names + room)
 
-    group_low : (group rest : List Point) (c before : Point) (cs : List Point) (b : Point) → AllUnder group c → Under (some rest) (some cs) → Under b (λ x. before x || c x)
-        → count (here before c cs) names ≤ n → ((b1 : Point) → Under b1 (λ x. before x || c x) → Low variables (n + room) b1 rest) → Low variables (n + room) b (group ++ rest)
+    group_low : (group rest : List Point) (c before : Point) (cs : List Point) (b : Point) → AllUnder group c
+        → Under (some rest) (some cs) → Under b (λ x. before x || c x)
+        → count (here before c cs) names ≤ n → ((b1 : Point) → Under b1 (λ x. before x || c x) → Low variables (n + room) b1 rest)
+        → Low variables (n + room) b (group ++ rest)
     group_low [] rest c before cs b under behind marked few next = next b marked
     group_low (p ∷ group) rest c before cs b under behind marked few next =
         let front : Under (λ v. b v || p v) (λ x. before x || c x) =
@@ -163,22 +180,27 @@ module _ (names : List ℕ) where
         let back : Under (λ v. p v || some (group ++ rest) v) (λ x. c x || some cs x) = λ x known is.
         let split : (p (place names x) || (some group (place names x) || some rest (place names x))) ≡ true =
         ap (λ t. p (place names x) || t) (sym (some_both group rest (place names x))) ∙ is in
-        regrouped (p (place names x)) (some group (place names x)) (some rest (place names x)) (c x) (some cs x) (under.0 x known) (some_under group c under.1 x known) (behind x known) split in
+        regrouped (p (place names x)) (some group (place names x)) (some rest (place names x)) (c x) (some cs x) (under.0 x known)
+        (some_under group c under.1 x known) (behind x known) split in
         let counted = count_names (here b p (group ++ rest)) (here before c cs) room names 0 unique (λ x known is.
-        let parts = both_of (b (0 + place names x) || p (0 + place names x)) (p (0 + place names x) || some (group ++ rest) (0 + place names x)) is in
+        let parts = both_of (b (0 + place names x) || p (0 + place names x))
+        (p (0 + place names x) || some (group ++ rest) (0 + place names x)) is in
         let z : 0 + place names x ≡ place names x = omega arith in
         and_of (before x || c x) (c x || some cs x) (front x known (subst (λ v. (b v || p v) ≡ true) z parts.0))
         (back x known (subst (λ v. (p v || some (group ++ rest) v) ≡ true) z parts.1))) in
         (omega arith, group_low group rest c before cs (λ v. b v || p v) under.1 behind front few next)
       where
-        regrouped : (p g r c s : Bool) → (p ≡ true → c ≡ true) → (g ≡ true → c ≡ true) → (r ≡ true → s ≡ true) → (p || (g || r)) ≡ true → (c || s) ≡ true
+        regrouped : (p g r c s : Bool) → (p ≡ true → c ≡ true) → (g ≡ true → c ≡ true) → (r ≡ true → s ≡ true)
+            → (p || (g || r)) ≡ true → (c || s) ≡ true
         regrouped true g r c s f k l is = or_first c s (f refl)
         regrouped false true r c s f k l is = or_first c s (k refl)
         regrouped false false r c s f k l is = or_second c s (l is)
 
-    pub low_fits : (cs fs : List Point) (before b : Point) → Under b before → Fits fs cs → Low names n before cs → Low variables (n + room) b fs
+    pub low_fits : (cs fs : List Point) (before b : Point) → Under b before → Fits fs cs → Low names n before cs
+        → Low variables (n + room) b fs
     low_fits [] fs before b under fits low = subst (λ (z : List Point). Low variables (n + room) b z) (sym fits) tt
     low_fits (c ∷ cs) fs before b under fits low =
         subst (λ (z : List Point). Low variables (n + room) b z) (sym fits.2.0)
-        (group_low fits.0 fits.1 c before cs b fits.2.1.0 (fits_some fits.1 cs fits.2.1.1) (λ x known is. or_first (before x) (c x) (under x known is)) low.0
+        (group_low fits.0 fits.1 c before cs b fits.2.1.0 (fits_some fits.1 cs fits.2.1.1)
+        (λ x known is. or_first (before x) (c x) (under x known is)) low.0
         (λ b1 marked. low_fits cs fits.1 (λ x. before x || c x) b1 marked fits.2.1.1 low.1))

@@ -1,5 +1,6 @@
 -- What holds of the whole code of a command.
-use Rattle.std.proofs.Common.{◌≡◌, refl, ap, ◌∙◌, arith, ℕ, zero, suc, ◌^◌, ◌<◌, ◌≤◌, List, length, get_or, map, Some, Result, Ok, Err, IfOk, slice_get, option_map, All}
+use Rattle.std.proofs.Common.{◌≡◌, refl, ap, ◌∙◌, arith, ℕ, zero, suc, ◌^◌, ◌<◌, ◌≤◌, List, length, get_or, map, Some, Result, Ok}
+use Rattle.std.proofs.Common.{Err, IfOk, slice_get, option_map, All}
 use Rattle.std.proofs.lemmas.List.{length-map}
 use Rattle.std.proofs.lemmas.Option.{slice_get-map, slice_get-get_or, get_or_from_slice_get}
 use Rattle.bed_syntax.specs.Named.{cmd_names}
@@ -47,19 +48,23 @@ module _ (cmd : Cmd) (args : ℕ) (rets : List ℕ) where
   listed = same.tables
 
   first : Extends (numbers args) names
-  first = extends_through (numbers args) (cmd_locals cmd (numbers args)) names (cmd_grows cmd (numbers args)) (extends_all_noted rets (cmd_locals cmd (numbers args)))
+  first = extends_through (numbers args) (cmd_locals cmd (numbers args)) names (cmd_grows cmd (numbers args))
+      (extends_all_noted rets (cmd_locals cmd (numbers args)))
 
   room_for : (n : ℕ) → n ≡ args → args ≤ length names
   room_for zero e = omega arith
-  room_for (suc n) e = let h = arguments_first args n names first (omega arith) in let p : place names n ≡ n = h.1 in let k : Known names n = h.0 in omega arith
+  room_for (suc n) e = let h = arguments_first args n names first (omega arith) in let p : place names n ≡ n = h.1 in
+      let k : Known names n = h.0 in omega arith
 
   results_below : All (λ x. x < flat.vars) flat.rets
   results_below k d below =
       let n : length (map (place names) rets) ≡ length rets = length-map rets (place names) in
       let x : ℕ = get_or rets k 0 in
       let is : slice_get rets k ≡ Some x = slice_get-get_or rets k 0 (omega arith) in
-      let at : slice_get (map (place names) rets) k ≡ Some (place names x) = slice_get-map (place names) rets k ∙ ap (option_map (place names)) is in
-      let e : get_or (map (place names) rets) k d ≡ place names x = get_or_from_slice_get (map (place names) rets) k (place names x) d at in
+      let at : slice_get (map (place names) rets) k
+      ≡ Some (place names x) = slice_get-map (place names) rets k ∙ ap (option_map (place names)) is in
+      let e : get_or (map (place names) rets) k d
+      ≡ place names x = get_or_from_slice_get (map (place names) rets) k (place names x) d at in
       let known : Known names x = known_all_noted rets (cmd_locals cmd (numbers args)) k x is in
       omega arith
 
@@ -69,7 +74,8 @@ module _ (cmd : Cmd) (args : ℕ) (rets : List ℕ) where
       let n : length (map (place names) rets) ≡ length rets = length-map rets (place names) in
       let room : args ≤ length names = room_for args refl in
       record {
-        body = cmd_whole flat.vars (length flat.tables) names cmd (numbers args) 0 (extends_all_noted rets (cmd_locals cmd (numbers args))) (omega arith) (omega arith);
+        body = cmd_whole flat.vars (length flat.tables) names cmd (numbers args) 0
+            (extends_all_noted rets (cmd_locals cmd (numbers args))) (omega arith) (omega arith);
         args = few_args;
         arguments = omega arith;
         rets = omega arith;

@@ -21,14 +21,19 @@ pub run_joined : (w : Weights) (tables : List (List ℕ)) (a b : List FStmt) (s 
     → run_all w tables (a ++ b) s ≡ and_then (run_all w tables a s) (run_all w tables b)
 run_joined w tables [] b s = refl
 run_joined w tables (f ∷ fs) b s =
-    then_joined (run w tables f s) (run_all w tables (fs ++ b)) (run_all w tables fs) (run_all w tables b) (λ t. run_joined w tables fs b t)
+    then_joined (run w tables f s) (run_all w tables (fs ++ b)) (run_all w tables fs) (run_all w tables b)
+    (λ t. run_joined w tables fs b t)
 
 -- with k for itself and any j left over, the code goes from the first state to the second, at a price
 abbrev pub Goes : Weights → List (List ℕ) → List FStmt → Bytes → Vars → ℕ → Bytes → Vars → Type 0
 Goes w tables fs m v t m1 v1 = (k : ℕ) × ((j u : ℕ) → run_all w tables fs (at (k + j) u m v) ≡ Ok (at j (u + t) m1 v1))
 
 pub goes_none : (w : Weights) (tables : List (List ℕ)) (m : Bytes) (v : Vars) → Goes w tables [] m v 0 m v
-goes_none w tables m v = (0, λ j u. let f : 0 + j ≡ j = omega arith in let p : u ≡ u + 0 = omega arith in ap (λ n. Ok (at n u m v)) f ∙ ap (λ n. Ok (at j n m v)) p)
+goes_none w tables m v = (
+  0,
+  λ j u. let f : 0 + j ≡ j = omega arith in let p : u ≡ u + 0 = omega arith in
+      ap (λ n. Ok (at n u m v)) f ∙ ap (λ n. Ok (at j n m v)) p,
+)
 
 pub goes_both : (w : Weights) (tables : List (List ℕ)) (a b : List FStmt) (m m1 m2 : Bytes) (v v1 v2 : Vars) (t t1 : ℕ)
     → Goes w tables a m v t m1 v1 → Goes w tables b m1 v1 t1 m2 v2 → Goes w tables (a ++ b) m v (t + t1) m2 v2
@@ -46,7 +51,8 @@ goes_both w tables a b m m1 m2 v v1 v2 t t1 g h = (
 
 -- a statement that takes one from the fuel and then does what its rule does
 pub goes_inside : (w : Weights) (tables : List (List ℕ)) (s : FStmt) (rule : Rule) (m m1 : Bytes) (v v1 : Vars) (t : ℕ)
-    → run w tables s ≡ fuelled rule → (k : ℕ) × ((j u : ℕ) → rule (at (k + j) u m v) ≡ Ok (at j (u + t) m1 v1)) → Goes w tables (s ∷ []) m v t m1 v1
+    → run w tables s ≡ fuelled rule → (k : ℕ) × ((j u : ℕ) → rule (at (k + j) u m v) ≡ Ok (at j (u + t) m1 v1))
+    → Goes w tables (s ∷ []) m v t m1 v1
 goes_inside w tables s rule m m1 v v1 t opened goes = (
   suc goes.0,
   λ j u.
@@ -58,6 +64,8 @@ goes_inside w tables s rule m m1 v v1 t opened goes = (
 
 -- one whose rule takes no more
 pub goes_one : (w : Weights) (tables : List (List ℕ)) (s : FStmt) (rule : Rule) (m m1 : Bytes) (v v1 : Vars) (t : ℕ)
-    → run w tables s ≡ fuelled rule → ((j u : ℕ) → rule (at j u m v) ≡ Ok (at j (u + t) m1 v1)) → Goes w tables (s ∷ []) m v t m1 v1
+    → run w tables s ≡ fuelled rule → ((j u : ℕ) → rule (at j u m v) ≡ Ok (at j (u + t) m1 v1))
+    → Goes w tables (s ∷ []) m v t m1 v1
 goes_one w tables s rule m m1 v v1 t opened goes =
-    goes_inside w tables s rule m m1 v v1 t opened (0, λ j u. let f : 0 + j ≡ j = omega arith in ap (λ n. rule (at n u m v)) f ∙ goes j u)
+    goes_inside w tables s rule m m1 v v1 t opened
+    (0, λ j u. let f : 0 + j ≡ j = omega arith in ap (λ n. rule (at n u m v)) f ∙ goes j u)

@@ -19,18 +19,21 @@ ExprProved = (a : BExpr) × Grows (expr_locals a)
 abbrev bare_expr : BExpr-F ExprProved → BExpr-F BExpr
 bare_expr y = map-BExpr ExprProved BExpr (λ p. p.0) y
 
-expr_step_grows : (y : BExpr-F ExprProved) → Grows (expr_locals_step (map-BExpr BExpr (List ℕ → List ℕ) expr_locals (bare_expr y)))
+expr_step_grows : (y : BExpr-F ExprProved)
+    → Grows (expr_locals_step (map-BExpr BExpr (List ℕ → List ℕ) expr_locals (bare_expr y)))
 expr_step_grows (e.Lit n) = extends_self
 expr_step_grows (e.Var x) = extends_noted x
 expr_step_grows (e.Bin op a b) = grows_then (expr_locals a.0) (expr_locals b.0) a.1 b.1
 expr_step_grows (e.Load size a) = a.1
 expr_step_grows (e.Table size bytes a) = a.1
 
-expr_rolled : (y : BExpr-F BExpr) → Grows (expr_locals_step (map-BExpr BExpr (List ℕ → List ℕ) expr_locals y)) → Grows (expr_locals (roll-BExpr y))
+expr_rolled : (y : BExpr-F BExpr) → Grows (expr_locals_step (map-BExpr BExpr (List ℕ → List ℕ) expr_locals y))
+    → Grows (expr_locals (roll-BExpr y))
 expr_rolled y h = rw (fold-roll-BExpr (List ℕ → List ℕ) expr_locals_step y) h
 
 pub expr_grows : (a : BExpr) → Grows (expr_locals a)
-expr_grows = ind-BExpr (λ a. Grows (expr_locals a)) (λ z y is. subst (λ r. Grows (expr_locals (roll-BExpr r))) is (expr_rolled (bare_expr y) (expr_step_grows y)))
+expr_grows = ind-BExpr (λ a. Grows (expr_locals a))
+    (λ z y is. subst (λ r. Grows (expr_locals (roll-BExpr r))) is (expr_rolled (bare_expr y) (expr_step_grows y)))
 
 abbrev CmdProved : Type 0
 CmdProved = (a : Cmd) × Grows (cmd_locals a)
@@ -46,15 +49,18 @@ cmd_step_grows : (y : Cmd-F CmdProved) → Grows (cmd_locals_step (map-Cmd Cmd (
 cmd_step_grows (c.Set x e) = grows_then (expr_locals e) (λ ms. noted x ms) (expr_grows e) (extends_noted x)
 cmd_step_grows (c.Store size a e) = grows_then (expr_locals a) (expr_locals e) (expr_grows a) (expr_grows e)
 cmd_step_grows (c.Cond e p q) =
-    grows_then (expr_locals e) (λ ms. cmd_locals q.0 (cmd_locals p.0 ms)) (expr_grows e) (grows_then (cmd_locals p.0) (cmd_locals q.0) p.1 q.1)
+    grows_then (expr_locals e) (λ ms. cmd_locals q.0 (cmd_locals p.0 ms)) (expr_grows e)
+    (grows_then (cmd_locals p.0) (cmd_locals q.0) p.1 q.1)
 cmd_step_grows (c.Seq cs) = all_grow cs
 cmd_step_grows (c.While e p) = grows_then (expr_locals e) (cmd_locals p.0) (expr_grows e) p.1
 
-cmd_rolled : (y : Cmd-F Cmd) → Grows (cmd_locals_step (map-Cmd Cmd (List ℕ → List ℕ) cmd_locals y)) → Grows (cmd_locals (roll-Cmd y))
+cmd_rolled : (y : Cmd-F Cmd) → Grows (cmd_locals_step (map-Cmd Cmd (List ℕ → List ℕ) cmd_locals y))
+    → Grows (cmd_locals (roll-Cmd y))
 cmd_rolled y h = rw (fold-roll-Cmd (List ℕ → List ℕ) cmd_locals_step y) h
 
 pub cmd_grows : (a : Cmd) → Grows (cmd_locals a)
-cmd_grows = ind-Cmd (λ a. Grows (cmd_locals a)) (λ z y is. subst (λ r. Grows (cmd_locals (roll-Cmd r))) is (cmd_rolled (bare_cmd y) (cmd_step_grows y)))
+cmd_grows = ind-Cmd (λ a. Grows (cmd_locals a))
+    (λ z y is. subst (λ r. Grows (cmd_locals (roll-Cmd r))) is (cmd_rolled (bare_cmd y) (cmd_step_grows y)))
 
 pub all_locals_grow : (cs : List Cmd) → Grows (in_turn (map cmd_locals cs))
 all_locals_grow [] = extends_self

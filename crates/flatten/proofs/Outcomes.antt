@@ -21,11 +21,13 @@ pub took : (n : ℕ) (s t : State) (next : Rule) → take_one n s next ≡ done 
 took zero s t next h = absurd (let bad : ◌≡◌ {A = Result State Halt} (Err OutOfFuel) (Ok t) = h in cc)
 took (suc n) s t next h = (n, h)
 
-pub given_some : {A : Type 0} (a : Option A) (next : A → Result State Halt) (t : State) → given a next ≡ done t → (x : A) × ((a ≡ Some x) × (next x ≡ done t))
+pub given_some : {A : Type 0} (a : Option A) (next : A → Result State Halt) (t : State) → given a next ≡ done t
+    → (x : A) × ((a ≡ Some x) × (next x ≡ done t))
 given_some None next t h = absurd (let bad : ◌≡◌ {A = Result State Halt} (Err Stuck) (Ok t) = h in cc)
 given_some (Some x) next t h = (x, (refl, h))
 
-pub then_done : (r : Result State Halt) (next : Rule) (t : State) → and_then r next ≡ done t → (s : State) × ((r ≡ done s) × (next s ≡ done t))
+pub then_done : (r : Result State Halt) (next : Rule) (t : State) → and_then r next ≡ done t
+    → (s : State) × ((r ≡ done s) × (next s ≡ done t))
 then_done (Ok s) next t h = (s, (refl, h))
 then_done (Err e) next t h = absurd (let bad : ◌≡◌ {A = Result State Halt} (Err e) (Ok t) = h in cc)
 

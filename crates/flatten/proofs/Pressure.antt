@@ -1,5 +1,6 @@
 -- The pressure of the code of a command is at most that of the command.
-use Rattle.std.proofs.Common.{◌≡◌, refl, sym, ap, ◌∙◌, arith, ℕ, ◌+◌, ◌<◌, ◌≤◌, true, false, ◌||◌, ◌&&◌, nat_eq, nat_lt, List, [], ◌∷◌, ◌++◌, map}
+use Rattle.std.proofs.Common.{◌≡◌, refl, sym, ap, ◌∙◌, arith, ℕ, ◌+◌, ◌<◌, ◌≤◌, true, false, ◌||◌, ◌&&◌, nat_eq, nat_lt, List, []}
+use Rattle.std.proofs.Common.{◌∷◌, ◌++◌, map}
 use Rattle.std.proofs.lemmas.Bool.{ltb-true, lt-ltb}
 use Rattle.bed_syntax.specs.Intervals.{Point, some, most_covering}
 use Rattle.bed_syntax.specs.Pressure.{points, early, all_points, pressure}
@@ -18,10 +19,12 @@ use Rattle.flatten.proofs.Kept.{arguments_first}
 use Rattle.flatten.proofs.Places.{Known, Extends, extends_through, extends_all_noted, same_place}
 use Rattle.flatten.proofs.Pressed.{Comes, cmd_comes, same_test, or_false}
 
-read_at_end : (names : List ℕ) (x : ℕ) → Known names x → (rets : List ℕ) → takes (place names x) (map read (map (place names) rets)) false ≡ is_known rets x
+read_at_end : (names : List ℕ) (x : ℕ) → Known names x → (rets : List ℕ)
+    → takes (place names x) (map read (map (place names) rets)) false ≡ is_known rets x
 read_at_end names x known [] = refl
 read_at_end names x known (y ∷ rets) =
-    ap (λ b. b || takes (place names x) (map read (map (place names) rets)) false) (same_test names x y known) ∙ ap (λ b. nat_eq y x || b) (read_at_end names x known rets)
+    ap (λ b. b || takes (place names x) (map read (map (place names) rets)) false) (same_test names x y known)
+    ∙ ap (λ b. nat_eq y x || b) (read_at_end names x known rets)
 
 module _ (cmd : Cmd) (args : ℕ) (rets : List ℕ) where
   abbrev names : List ℕ
@@ -34,7 +37,8 @@ module _ (cmd : Cmd) (args : ℕ) (rets : List ℕ) where
   comes = cmd_comes names cmd 0
 
   first : Extends (numbers args) names
-  first = extends_through (numbers args) (cmd_locals cmd (numbers args)) names (cmd_grows cmd (numbers args)) (extends_all_noted rets (cmd_locals cmd (numbers args)))
+  first = extends_through (numbers args) (cmd_locals cmd (numbers args)) names (cmd_grows cmd (numbers args))
+      (extends_all_noted rets (cmd_locals cmd (numbers args)))
 
   argument : (x : ℕ) → Known names x → nat_lt (place names x) args ≡ true → nat_lt x args ≡ true
   argument x known is =
@@ -60,14 +64,17 @@ module _ (cmd : Cmd) (args : ℕ) (rets : List ℕ) where
 
   shown_under : Under names shown seen
   shown_under x known is =
-      let parts = both_of (nat_lt (place names x) args) (some (body_points flat.body) (place names x) || returned flat.rets (place names x)) is in
+      let parts = both_of (nat_lt (place names x) args)
+      (some (body_points flat.body) (place names x) || returned flat.rets (place names x)) is in
       and_of (nat_lt x args) (some (points cmd) x || is_known rets x) (argument x known parts.0)
-      (under_or names (some (body_points flat.body)) (λ v. returned flat.rets v) (some (points cmd)) (λ x. is_known rets x) (fits_some names (body_points flat.body) (points cmd) comes.fits) end_under x
+      (under_or names (some (body_points flat.body)) (λ v. returned flat.rets v) (some (points cmd)) (λ x. is_known rets x)
+      (fits_some names (body_points flat.body) (points cmd) comes.fits) end_under x
       known parts.1)
 
   entry_under : Under names (λ v. shown v || flat_need flat v) (λ x. seen x || early cmd x (is_known rets x))
   entry_under =
-      under_or names shown (λ v. flat_need flat v) seen (λ x. early cmd x (is_known rets x)) shown_under (λ x known is. sym (needs x known) ∙ is)
+      under_or names shown (λ v. flat_need flat v) seen (λ x. early cmd x (is_known rets x)) shown_under
+      (λ x known is. sym (needs x known) ∙ is)
 
   fits : Fits names (interval_points flat) (all_points cmd args rets)
   fits = (
@@ -77,7 +84,8 @@ module _ (cmd : Cmd) (args : ℕ) (rets : List ℕ) where
       refl,
       (
         (entry_under, tt),
-        fits_both names (body_points flat.body) (points cmd) ((λ v. returned flat.rets v) ∷ []) ((λ x. is_known rets x) ∷ []) comes.fits
+        fits_both names (body_points flat.body) (points cmd) ((λ v. returned flat.rets v) ∷ []) ((λ x. is_known rets x) ∷ [])
+            comes.fits
             (fits_one names ((λ v. returned flat.rets v) ∷ []) (λ x. is_known rets x) (end_under, tt)),
       ),
     ),
@@ -88,4 +96,5 @@ module _ (cmd : Cmd) (args : ℕ) (rets : List ℕ) where
       let most : ℕ = most_covering (all_points cmd args rets) names in
       let low : Low names most (λ x. false) (all_points cmd args rets) = most_low names (all_points cmd args rets) in
       low_most _ (most + cmd_depth cmd) (interval_points flat)
-      (low_fits names (locals_unique cmd args rets) (cmd_depth cmd) most (all_points cmd args rets) (interval_points flat) (λ x. false) (λ v. false) (λ x known is. is) fits low)
+      (low_fits names (locals_unique cmd args rets) (cmd_depth cmd) most (all_points cmd args rets) (interval_points flat)
+      (λ x. false) (λ v. false) (λ x known is. is) fits low)

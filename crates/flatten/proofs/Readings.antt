@@ -1,5 +1,7 @@
 -- What stands in maps and lists that were changed or put together.
-use Rattle.std.proofs.Common.{◌≡◌, refl, sym, ap, ◌∙◌, arith, ℕ, zero, suc, ◌+◌, Bool, true, false, cond, nat_eq, nat_lt, List, [], ◌∷◌, ◌++◌, length, Option, Some, None, slice_get, slice_set, ◌⊎◌, inl, inr, ⊎_elim, if◌then◌else◌}
+use Rattle.std.proofs.Common.{◌≡◌, refl, sym, ap, ◌∙◌, arith, ℕ, zero, suc, ◌+◌, Bool, true, false, cond, nat_eq, nat_lt, List}
+use Rattle.std.proofs.Common.{[], ◌∷◌, ◌++◌, length, Option, Some, None, slice_get, slice_set, ◌⊎◌, inl, inr, ⊎_elim}
+use Rattle.std.proofs.Common.{if◌then◌else◌}
 use Rattle.std.proofs.lemmas.Bool.Decides.{eqb_tells}
 use Rattle.std.proofs.lemmas.Grind.{common_steps}
 use Rattle.std.specs.Ordering.{nat_cmp, eq_by_cmp}
@@ -19,7 +21,8 @@ pub get_set : (v : Vars) (x n : ℕ) → get (insert v x n) x ≡ Some n
 get_set v x n = inserted v x n x ∙ ⊎_elim (λ p. ap (λ b. cond b (Some n) (get v x)) p.0) (λ p. absurd (p.1 refl)) (eqb_tells x x)
 
 pub get_other : (v : Vars) (x n q : ℕ) → (q ≡ x → ⊥) → get (insert v x n) q ≡ get v q
-get_other v x n q h = inserted v x n q ∙ ⊎_elim (λ p. absurd (h p.1)) (λ p. ap (λ b. cond b (Some n) (get v q)) p.0) (eqb_tells q x)
+get_other v x n q h = inserted v x n q
+    ∙ ⊎_elim (λ p. absurd (h p.1)) (λ p. ap (λ b. cond b (Some n) (get v q)) p.0) (eqb_tells q x)
 
 -- the tables from one place on are these
 abbrev pub Has : List (List ℕ) → ℕ → List (List ℕ) → Type 0
@@ -44,7 +47,8 @@ has_second tables k a b h i x e =
     let n : k + length a + i ≡ k + (length a + i) = omega arith in
     ap (slice_get tables) n ∙ h (length a + i) x (slice_get_second a b i ∙ e)
 
-pub has_last : (tables : List (List ℕ)) (k : ℕ) (a : List (List ℕ)) (x : List ℕ) → Has tables k (a ++ x ∷ []) → slice_get tables (k + length a) ≡ Some x
+pub has_last : (tables : List (List ℕ)) (k : ℕ) (a : List (List ℕ)) (x : List ℕ) → Has tables k (a ++ x ∷ [])
+    → slice_get tables (k + length a) ≡ Some x
 has_last tables k a x h =
     let n : k + length a ≡ k + (length a + 0) = omega arith in
     ap (slice_get tables) n ∙ h (length a + 0) x (slice_get_second a (x ∷ []) 0)
@@ -66,7 +70,8 @@ assigned_is true l l1 h = let is : Some l ≡ Some l1 = h in cc
 assigned_is false l l1 h = absurd (let bad : None ≡ Some l1 = h in cc)
 
 -- after one local was set, it has the new value, and the others have theirs
-pub local_set : (l l1 : bed.Vars) (x v y n : ℕ) → bed.assigned x v l ≡ Some l1 → bed.local_at l1 y ≡ Some n → ((y ≡ x) × (n ≡ v)) ⊎ ((y ≡ x → ⊥) × (bed.local_at l y ≡ Some n))
+pub local_set : (l l1 : bed.Vars) (x v y n : ℕ) → bed.assigned x v l ≡ Some l1 → bed.local_at l1 y ≡ Some n
+    → ((y ≡ x) × (n ≡ v)) ⊎ ((y ≡ x → ⊥) × (bed.local_at l y ≡ Some n))
 local_set l l1 x v y n h is =
     let e : l1 ≡ slice_set l x (Some v) = assigned_is (nat_lt x (length l)) (slice_set l x (Some v)) l1 h in
     let here : bed.local_at (slice_set l x (Some v)) y ≡ Some n = ap (λ r. bed.local_at r y) (sym e) ∙ is in

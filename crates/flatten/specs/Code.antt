@@ -57,19 +57,22 @@ cmd_step names (c.Store size a e) =
     record {
       tables = (expr_code names a).tables ++ (expr_code names e).tables;
       code = λ k. (expr_code names a).code (length names) k
-          ++ ((expr_code names e).code (length names + 1) (k + length (expr_code names a).tables) ++ f.Store size (length names) (length names + 1) ∷ []);
+          ++ ((expr_code names e).code (length names + 1) (k + length (expr_code names a).tables)
+          ++ f.Store size (length names) (length names + 1) ∷ []);
     }
 cmd_step names (c.Cond e p q) =
     record {
       tables = (expr_code names e).tables ++ (p.tables ++ q.tables);
       code = λ k. (expr_code names e).code (length names) k
-          ++ f.If (length names) (p.code (k + length (expr_code names e).tables)) (q.code (k + length (expr_code names e).tables + length p.tables)) ∷ [];
+          ++ f.If (length names) (p.code (k + length (expr_code names e).tables))
+          (q.code (k + length (expr_code names e).tables + length p.tables)) ∷ [];
     }
 cmd_step names (c.Seq cs) = in_turn cs
 cmd_step names (c.While e p) =
     record {
       tables = (expr_code names e).tables ++ p.tables;
-      code = λ k. f.While ((expr_code names e).code (length names) k) (length names) (p.code (k + length (expr_code names e).tables)) ∷ [];
+      code = λ k. f.While ((expr_code names e).code (length names) k) (length names)
+          (p.code (k + length (expr_code names e).tables)) ∷ [];
     }
 
 abbrev pub cmd_code : List ℕ → Cmd → CmdCode

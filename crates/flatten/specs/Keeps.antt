@@ -17,10 +17,12 @@ Starts args locals vars = (x n : ℕ) → bed.local_at locals x ≡ Some n → (
 -- each result that is set at the end has its value in the variable that stands for it
 abbrev pub Returns : List ℕ → List ℕ → bed.Vars → flat.Vars → Type 0
 Returns rets places locals vars =
-    (i x n : ℕ) → slice_get rets i ≡ Some x → bed.local_at locals x ≡ Some n → (y : ℕ) × (slice_get places i ≡ Some y) × (get vars y ≡ Some n)
+    (i x n : ℕ) → slice_get rets i ≡ Some x → bed.local_at locals x ≡ Some n → (y : ℕ) × (slice_get places i ≡ Some y)
+    × (get vars y ≡ Some n)
 
 -- with enough fuel the code ends with these ticks, this memory and the results of these locals
-pub record Ends (w : Weights) (f : Flat) (rets : List ℕ) (mem : Bytes) (vars : flat.Vars) (ticks : ℕ) (mem1 : Bytes) (locals1 : bed.Vars) : Type 0 where
+pub record Ends (w : Weights) (f : Flat) (rets : List ℕ) (mem : Bytes) (vars : flat.Vars) (ticks : ℕ) (mem1 : Bytes)
+    (locals1 : bed.Vars) : Type 0 where
   pub fuel : ℕ
   pub vars1 : flat.Vars
   pub runs : (k : ℕ) → fuel ≤ k → target.exec w f k mem vars ≡ Ok (ticks, mem1, vars1)

@@ -1,5 +1,6 @@
 -- A pattern matches exactly its instances.
-use Rattle.std.proofs.Common.{◌≡◌, refl, sym, ◌∙◌, ap, subst, ℕ, nat_eq, Bool, true, false, ◌&&◌, List, [], ◌∷◌, ◌++◌, Option, Some, None, is_some, option_and_then, if◌then◌else◌}
+use Rattle.std.proofs.Common.{◌≡◌, refl, sym, ◌∙◌, ap, subst, ℕ, nat_eq, Bool, true, false, ◌&&◌, List, [], ◌∷◌, ◌++◌, Option}
+use Rattle.std.proofs.Common.{Some, None, is_some, option_and_then, if◌then◌else◌}
 use Rattle.model_syntax.proofs.laws.Bindings.{same_is, same_self}
 use Rattle.model_syntax.specs.Names.{Name, same}
 use Rattle.model_syntax.specs.declared.expr.Op.{Op}
@@ -8,12 +9,14 @@ use Rattle.model_syntax.specs.declared.expr.Scalar.{Scalar}
 use Rattle.model_syntax.specs.declared.expr.Expr.{Expr, Expr-F, roll-Expr, out-Expr, out-roll-Expr, roll-out-Expr}
 use Rattle.model_syntax.specs.declared.expr.Expr.TheOpen as e
 use Rattle.model_syntax.specs.declared.expr.Expr.TheVariants as v
-use Rattle.lemma_files.specs.declared.terms.Pattern.{Pattern, Pattern-F, map-Pattern, roll-Pattern, fold-roll-Pattern, ind-Pattern}
+use Rattle.lemma_files.specs.declared.terms.Pattern.{Pattern, Pattern-F, map-Pattern, roll-Pattern, fold-roll-Pattern}
+use Rattle.lemma_files.specs.declared.terms.Pattern.{ind-Pattern}
 use Rattle.lemma_files.specs.declared.terms.Pattern.TheOpen as p
 use Rattle.lemma_files.specs.Same.{same_op, same_cmp, same_scalar, same_entries, same_expr}
 use Rattle.lemma_files.specs.Matching.{Holes, Match, stands_for, only_if, both, fill, match_layer, match_step, match_at, matches}
 use Rattle.lemma_files.specs.Substitution.{Substitution, filled, filled_step, IsInstance}
-use Rattle.lemma_files.proofs.SameExpr.{both_true, number_is, number_self, op_is, op_self, cmp_is, cmp_self, scalar_is, scalar_self, expr_is, expr_same}
+use Rattle.lemma_files.proofs.SameExpr.{both_true, number_is, number_self, op_is, op_self, cmp_is, cmp_self, scalar_is}
+use Rattle.lemma_files.proofs.SameExpr.{scalar_self, expr_is, expr_same}
 
 -- the holes that were met stand for what the substitution gives them
 abbrev Agrees : Substitution → Holes → Type 0
@@ -194,7 +197,8 @@ layer_fits y z = never_fits (Layered y z)
 step_fits : (y : Pattern-F Told) (b : Expr) → Fits (match_step (found (plain y)) b) (becomes (plain y) b)
 step_fits (p.Hole x) b = fill_fits x b
 step_fits y b =
-    subst (λ c. Fits (match_layer (found (plain y)) (out-Expr b)) (becomes (plain y) c)) (roll-out-Expr b) (layer_fits y (out-Expr b))
+    subst (λ c. Fits (match_layer (found (plain y)) (out-Expr b)) (becomes (plain y) c)) (roll-out-Expr b)
+    (layer_fits y (out-Expr b))
 
 matched : (y : Pattern-F Pattern) (b : Expr) → match_at (roll-Pattern y) b ≡ match_step (found y) b
 matched y b = ap (λ (f : Expr → Match). f b) (fold-roll-Pattern (Expr → Match) match_step y)

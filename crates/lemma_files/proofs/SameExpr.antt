@@ -9,7 +9,8 @@ use Rattle.model_syntax.specs.declared.expr.Cmp.{Cmp}
 use Rattle.model_syntax.specs.declared.expr.Cmp.TheVariants as cmp
 use Rattle.model_syntax.specs.declared.expr.Scalar.{Scalar}
 use Rattle.model_syntax.specs.declared.expr.Scalar.TheVariants as scalar
-use Rattle.model_syntax.specs.declared.expr.Expr.{Expr, Expr-F, map-Expr, roll-Expr, out-Expr, out-roll-Expr, roll-out-Expr, fold-roll-Expr, ind-Expr}
+use Rattle.model_syntax.specs.declared.expr.Expr.{Expr, Expr-F, map-Expr, roll-Expr, out-Expr, out-roll-Expr, roll-out-Expr}
+use Rattle.model_syntax.specs.declared.expr.Expr.{fold-roll-Expr, ind-Expr}
 use Rattle.model_syntax.specs.declared.expr.Expr.TheOpen as e
 use Rattle.lemma_files.specs.Same.{same_op, same_cmp, same_scalar, same_layer, same_step, same_expr}
 

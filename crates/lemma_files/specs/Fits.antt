@@ -9,7 +9,7 @@ use Rattle.lemma_files.specs.declared.terms.Shape.{Shape}
 use Rattle.lemma_files.specs.declared.terms.Shape.TheVariants as shape
 
 -- the statement is of the shape's kind, and has its name
-abbrev pub fits_layer : Shape → Stmt-F Stmt → Bool
+abbrev pub fits_layer : {A : Type 0} → Shape → Stmt-F A → Bool
 fits_layer (shape.Let x) (s.Let y a) = same x y
 fits_layer (shape.Put x) (s.Put a i v) = same x a
 fits_layer (shape.Move x) (s.Move b a i v) = same x a

@@ -1,6 +1,7 @@
 -- Which expressions a pattern matches: what stands in its places of holes is found from left to right, and a hole that
 -- was met before stands for the same expression.
-use Rattle.std.specs.Prelude.{ℕ, nat_eq, Bool, true, false, ◌&&◌, List, [], ◌∷◌, ◌++◌, Option, Some, None, is_some, option_and_then, if◌then◌else◌}
+use Rattle.std.specs.Prelude.{ℕ, nat_eq, Bool, true, false, ◌&&◌, List, [], ◌∷◌, ◌++◌, Option, Some, None, is_some}
+use Rattle.std.specs.Prelude.{option_and_then, if◌then◌else◌}
 use Rattle.model_syntax.specs.Names.{Name, same}
 use Rattle.model_syntax.specs.declared.expr.Expr.{Expr, Expr-F, out-Expr}
 use Rattle.model_syntax.specs.declared.expr.Expr.TheOpen as e

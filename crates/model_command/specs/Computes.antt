@@ -33,7 +33,8 @@ HoldsResults ps pointers [] [] [] mem locals = ⊤
 HoldsResults ps pointers (ret.Scalar x ∷ rs) (arg.Word n ∷ vs) (l ∷ ls) mem locals =
     (locals l ≡ Some n) × HoldsResults ps pointers rs vs ls mem locals
 HoldsResults ps pointers (ret.Array a p ∷ rs) (v ∷ vs) ls mem locals =
-    Stands mem (pointers (number_among p (map param_name ps))) (array_bytes (Some v)) × HoldsResults ps pointers rs vs ls mem locals
+    Stands mem (pointers (number_among p (map param_name ps))) (array_bytes (Some v))
+    × HoldsResults ps pointers rs vs ls mem locals
 HoldsResults ps pointers rs vs ls mem locals = ⊥
 
 -- an address in the range of an array that is returned
@@ -45,7 +46,8 @@ InReturned ps call (ret.Array a p ∷ rs) address =
 
 -- With some fuel the command ends: with the model's value, within the bound by a table of weights, and with all memory
 -- outside the returned arrays as before.
-pub record Ends (w : Weights) (m : Model) (c : ModelCommand) (args : List Arg) (pointers : ℕ → ℕ) (mem : Bytes) (vars : Vars) : Type 0 where
+pub record Ends (w : Weights) (m : Model) (c : ModelCommand) (args : List Arg) (pointers : ℕ → ℕ) (mem : Bytes) (vars : Vars) :
+    Type 0 where
   pub fuel : ℕ
   pub ticks : ℕ
   pub after_mem : Bytes

@@ -14,7 +14,8 @@ use Rattle.model_reader.proofs.laws.Readings.{reading-Atom, reading-Kids}
 use Rattle.model_printer.specs.Printing.{atom, list, worded}
 
 -- what is so of every reading of an atom is so of one in another place
-pub at_atom : (t : List ℕ) (c : Sx) (P : Reading → Type 0) → bare c ≡ bare (atom t) → ((p : Place) → P (atom_reading p t)) → P (reading c)
+pub at_atom : (t : List ℕ) (c : Sx) (P : Reading → Type 0) → bare c ≡ bare (atom t) → ((p : Place) → P (atom_reading p t))
+    → P (reading c)
 at_atom t c P h f =
     let (p, i) = atom_of c t (h ∙ bare-Atom (place 0 0) t) in
     subst P (sym (ap reading i ∙ reading-Atom p t)) (f p)
@@ -62,7 +63,8 @@ headed_by w ks (d ∷ ds) p P m f =
 
 -- a list that a word begins, whose other forms are of any number
 pub at_headed : (w : List ℕ) (ks : List Sx) (c : Sx) (P : Reading → Type 0) → bare c ≡ bare (worded w ks)
-    → ((p q : Place) (cs : List Sx) → map bare cs ≡ map bare ks → P (list_reading p (atom_reading q w ∷ map reading cs))) → P (reading c)
+    → ((p q : Place) (cs : List Sx) → map bare cs ≡ map bare ks → P (list_reading p (atom_reading q w ∷ map reading cs)))
+    → P (reading c)
 at_headed w ks c P h f = at_list (atom w ∷ ks) c P h (λ p cs m. headed_by w ks cs p P m (f p))
 
 -- each form of b, but for its places, is read as b

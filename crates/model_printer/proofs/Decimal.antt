@@ -1,5 +1,6 @@
 -- Numbers in decimal are read back, names are no numbers, and both are atoms.
-use Rattle.std.proofs.Common.{◌≡◌, refl, ◌∙◌, ap, ℕ, zero, suc, ◌<◌, ◌≤◌, ◌^◌, nat_lt, nat_le, nat_eq, true, false, List, [], ◌∷◌, length, get_or, arith, Some, None}
+use Rattle.std.proofs.Common.{◌≡◌, refl, ◌∙◌, ap, ℕ, zero, suc, ◌<◌, ◌≤◌, ◌^◌, nat_lt, nat_le, nat_eq, true, false, List, [], ◌∷◌}
+use Rattle.std.proofs.Common.{length, get_or, arith, Some, None}
 use Rattle.std.proofs.lemmas.Bool.Decides.{nat_tests}
 use Rattle.std.proofs.lemmas.Grind.{common_steps}
 use Rattle.std.proofs.lemmas.Fmt.{decimal_is_IsNumeral, decimal_digit, first_decimal}
@@ -16,7 +17,8 @@ use Rattle.rup_base.proofs.laws.Numerals.{numeral_no_digit}
 
 digits_all : (ds : List ℕ) → AllDigits 10 ds → list_all (λ d. is_digit d 10) ds ≡ true
 digits_all [] h = refl
-digits_all (d ∷ ds) (low, more) = let e : nat_lt (digit_value d) 10 ≡ true = grind (arith, common_steps) in rw (e, digits_all ds more) refl
+digits_all (d ∷ ds) (low, more) = let e : nat_lt (digit_value d) 10 ≡ true = grind (arith, common_steps) in
+    rw (e, digits_all ds more) refl
 
 no_zero : (ds : List ℕ) → 48 < get_or ds 0 0 → number ds ≡ numeral 10 ds
 no_zero [] h = absurd (omega arith)

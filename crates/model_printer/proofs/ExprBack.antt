@@ -66,7 +66,8 @@ module _ (p q : Place) (r : Reading) (a : Expr) (part : r.expr ≡ Ok a) where
   to_byte_reads : list_expr p (atom_reading q (codes "byte") ∷ r ∷ []) ≡ Ok (v.ToByte a)
   to_byte_reads = rw part refl
 
-length_reads : (p q : Place) (r : Reading) (x : List ℕ) → parts.name r ≡ Ok x → list_expr p (atom_reading q (codes "len") ∷ r ∷ []) ≡ Ok (v.Length x)
+length_reads : (p q : Place) (r : Reading) (x : List ℕ) → parts.name r ≡ Ok x
+    → list_expr p (atom_reading q (codes "len") ∷ r ∷ []) ≡ Ok (v.Length x)
 length_reads p q r x h = rw h refl
 
 get_reads : (p q : Place) (r s : Reading) (x : List ℕ) (i : Expr) → parts.name r ≡ Ok x → s.expr ≡ Ok i
@@ -120,7 +121,8 @@ entries_back t ns h f c b =
     at_list (map printing.number ns) c (λ r. r.entries t ≡ Ok ns) b
     (λ p cs m. some_back t p ns cs q.0 (entries_are_back t ns f q.1) m)
 
-scalar_back : (t : Scalar) (ns : List ℕ) → is_table t ns ≡ true → (c : Sx) → bare c ≡ bare (atom (scalar_word t)) → table_scalar (reading c) ≡ Ok t
+scalar_back : (t : Scalar) (ns : List ℕ) → is_table t ns ≡ true → (c : Sx) → bare c ≡ bare (atom (scalar_word t))
+    → table_scalar (reading c) ≡ Ok t
 scalar_back Word ns h c b = at_atom (codes "word") c (λ r. table_scalar r ≡ Ok Word) b (λ p. refl)
 scalar_back Byte ns h c b = at_atom (codes "byte") c (λ r. table_scalar r ≡ Ok Byte) b (λ p. refl)
 scalar_back Flag ns h c b = absurd cc
@@ -136,7 +138,8 @@ abbrev answer_of : Expr → Answer Expr
 answer_of w = Ok w
 
 at_layer : (y : Expr-F Expr) (w : Expr) → roll-Expr y ≡ w
-    → (expr_formed_step (map-Expr Expr Bool expr_formed y) ≡ true → expr_spellable_step (map-Expr Expr Bool expr_spellable y) ≡ true
+    → (expr_formed_step (map-Expr Expr Bool expr_formed y) ≡ true → expr_spellable_step (map-Expr Expr Bool expr_spellable y)
+    ≡ true
     → (c : Sx) → bare c ≡ bare (expr_step (map-Expr Expr Sx printing.expr y)) → (reading c).expr ≡ Ok w)
     → IsExprBack (roll-Expr y)
 at_layer y w is f h s c b =
@@ -205,7 +208,8 @@ node (e.Tab t ns k) =
     (λ h s c b.
     let f = and_parts (all_true (map is_word ns)) (expr_formed k.0) h in
     let g = and_parts (is_table t ns) (expr_spellable k.0) s in
-    at_worded (codes "tab") (atom (scalar_word t) ∷ list (map printing.number ns) ∷ printing.expr k.0 ∷ []) c (λ r. r.expr ≡ Ok (v.Tab t ns k.0)) b
+    at_worded (codes "tab") (atom (scalar_word t) ∷ list (map printing.number ns) ∷ printing.expr k.0 ∷ []) c
+    (λ r. r.expr ≡ Ok (v.Tab t ns k.0)) b
     (λ p q d bd i bi j bj. tab_reads p q (reading d) (reading i) (reading j) t ns k.0
     (scalar_back t ns g.0 d bd) (entries_back t ns g.0 f.0 i bi) (k.1 f.1 g.1 j bj)))
 

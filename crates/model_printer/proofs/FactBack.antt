@@ -85,6 +85,8 @@ facts_back rs h cs m = each_back fact printing.fact rs cs (all_back fact printin
 pub keep_back : (rs : List Le) → facts_formed rs ≡ true → (c : Sx) → bare c ≡ bare (printing.keep rs) → (reading c).keep ≡ Ok rs
 keep_back rs h c b = at_headed (codes "keep") (map printing.fact rs) c (λ r. r.keep ≡ Ok rs) b (λ p q cs m. facts_back rs h cs m)
 
-pub require_back : (rs : List Le) → facts_formed rs ≡ true → (c : Sx) → bare c ≡ bare (printing.worded (codes "require") (map printing.fact rs))
+pub require_back : (rs : List Le) → facts_formed rs ≡ true → (c : Sx)
+    → bare c ≡ bare (printing.worded (codes "require") (map printing.fact rs))
     → (reading c).requires_ ≡ Ok rs
-require_back rs h c b = at_headed (codes "require") (map printing.fact rs) c (λ r. r.requires_ ≡ Ok rs) b (λ p q cs m. facts_back rs h cs m)
+require_back rs h c b = at_headed (codes "require") (map printing.fact rs) c (λ r. r.requires_ ≡ Ok rs) b
+    (λ p q cs m. facts_back rs h cs m)

@@ -78,11 +78,13 @@ param_back (parameter.Words a n) h c b =
     (at_worded (codes "words") (printing.len n ∷ []) d (λ r. r.sort a ≡ Ok (parameter.Words a n)) bd
     (λ at head g bg. words_reads at head a (reading g) n (len_back n f.1 g bg))))
 
-params_back : (ws : List Param) → all_true (map param_formed ws) ≡ true → (c : Sx) → bare c ≡ bare (worded (codes "params") (map printing.param ws))
+params_back : (ws : List Param) → all_true (map param_formed ws) ≡ true → (c : Sx)
+    → bare c ≡ bare (worded (codes "params") (map printing.param ws))
     → (reading c).params ≡ Ok ws
 params_back ws h c b =
     at_headed (codes "params") (map printing.param ws) c (λ r. r.params ≡ Ok ws) b
-    (λ p q cs m. each_back models.param printing.param ws cs (all_back models.param printing.param param_formed param_back ws h) m)
+    (λ p q cs m. each_back models.param printing.param ws cs (all_back models.param printing.param param_formed param_back ws h)
+    m)
 
 -- results
 returned : (p : Place) (x : Name) → is_name x ≡ true → atom_ret p x ≡ Ok (result.Scalar x)
@@ -100,7 +102,8 @@ ret_back (result.Array a o) h c b =
     (λ p q d bd g bg. array_reads p q a o (reading d) (reading g) f.0
     (at_atom (codes "in") d (λ r. in_word r ≡ Ok tt) bd (λ at. refl)) (name_back o f.1 g bg))
 
-rets_back : (ws : List Ret) → all_true (map ret_formed ws) ≡ true → (c : Sx) → bare c ≡ bare (worded (codes "ret") (map printing.ret ws))
+rets_back : (ws : List Ret) → all_true (map ret_formed ws) ≡ true → (c : Sx)
+    → bare c ≡ bare (worded (codes "ret") (map printing.ret ws))
     → (reading c).rets ≡ Ok ws
 rets_back ws h c b =
     at_headed (codes "ret") (map printing.ret ws) c (λ r. r.rets ≡ Ok ws) b
@@ -108,11 +111,13 @@ rets_back ws h c b =
 
 -- models
 model_reads : (p q : Place) (r1 r2 r3 r4 r5 : Reading) (m : Model)
-    → parts.name r1 ≡ Ok m.name → r2.params ≡ Ok m.params → r3.requires_ ≡ Ok m.requires_ → r4.block ≡ Ok m.body → r5.rets ≡ Ok m.rets
+    → parts.name r1 ≡ Ok m.name → r2.params ≡ Ok m.params → r3.requires_ ≡ Ok m.requires_ → r4.block ≡ Ok m.body
+    → r5.rets ≡ Ok m.rets
     → list_model p (atom_reading q (codes "model") ∷ r1 ∷ r2 ∷ r3 ∷ r4 ∷ r5 ∷ []) ≡ Ok m
 model_reads p q r1 r2 r3 r4 r5 m h1 h2 h3 h4 h5 = rw (h1, h2, h3, h4, h5) refl
 
-pub model_back : (m : Model) → model_formed m ≡ true → all_true (map stmt_spellable m.body) ≡ true → IsBack models.model printing.model m
+pub model_back : (m : Model) → model_formed m ≡ true → all_true (map stmt_spellable m.body) ≡ true
+    → IsBack models.model printing.model m
 model_back m h s c b =
     let body : Bool = all_true (map stmt_formed m.body) in
     let rets : Bool = all_true (map ret_formed m.rets) in

@@ -15,7 +15,8 @@ use Rattle.model_reader.proofs.laws.Exact.{within_limits}
 use Rattle.model_printer.proofs.ModelBack.{model_back}
 use Rattle.model_printer.proofs.Spelled.{model_spelled}
 
-read_as : (word : ℕ) (bytes : List ℕ) (m : Model) (t : Sx) → read word bytes ≡ Ok (t ∷ []) → (reading t).model ≡ Ok m → limited m ≡ Ok m
+read_as : (word : ℕ) (bytes : List ℕ) (m : Model) (t : Sx) → read word bytes ≡ Ok (t ∷ []) → (reading t).model ≡ Ok m
+    → limited m ≡ Ok m
     → read_model word bytes ≡ Ok m
 read_as word bytes m t forms is within = rw (forms, is) within
 

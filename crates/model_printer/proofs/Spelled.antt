@@ -29,7 +29,9 @@ use Rattle.model_syntax.specs.declared.program.Ret.{Ret}
 use Rattle.model_syntax.specs.declared.program.Ret.TheVariants as result
 use Rattle.model_syntax.specs.declared.program.Model.{Model}
 use Rattle.model_syntax.specs.Kinds.{is_word}
-use Rattle.model_syntax.specs.Formed.{expr_formed, expr_formed_step, side_formed, side_formed_step, fact_formed, facts_formed, names_formed, stmt_formed, stmt_formed_step, len_formed, param_formed, ret_formed, model_formed}
+use Rattle.model_syntax.specs.Formed.{expr_formed, expr_formed_step, side_formed, side_formed_step, fact_formed, facts_formed}
+use Rattle.model_syntax.specs.Formed.{names_formed, stmt_formed, stmt_formed_step, len_formed, param_formed, ret_formed}
+use Rattle.model_syntax.specs.Formed.{model_formed}
 use Rattle.model_printer.specs.Printing as printing
 use Rattle.model_printer.specs.Printing.{atom, list, worded, op_word, cmp_word, scalar_word, expr_step, side_step, stmt_step}
 use Rattle.model_printer.proofs.Decimal.{decimal_spelled, name_spelled}
@@ -97,7 +99,8 @@ abbrev ProvedExpr : Type 0
 ProvedExpr = (w : Expr) × IsExprSpelled w
 
 expr_layer : (y : Expr-F Expr)
-    → (expr_formed_step (map-Expr Expr Bool expr_formed y) ≡ true → is_spelled (expr_step (map-Expr Expr Sx printing.expr y)) ≡ true)
+    → (expr_formed_step (map-Expr Expr Bool expr_formed y) ≡ true → is_spelled (expr_step (map-Expr Expr Sx printing.expr y))
+    ≡ true)
     → IsExprSpelled (roll-Expr y)
 expr_layer y f h = ap is_spelled (fold-roll-Expr Sx expr_step y) ∙ f (sym (fold-roll-Expr Bool expr_formed_step y) ∙ h)
 
@@ -168,9 +171,11 @@ side_form = ind-Lin IsSideSpelled (λ z y is. subst (λ w. IsSideSpelled (roll-L
 fact_form : (r : Le) → fact_formed r ≡ true → is_spelled (printing.fact r) ≡ true
 fact_form r h =
     let f = and_parts (side_formed r.low) (side_formed r.high) h in
-    worded_spelled (codes "le") (printing.side r.low ∷ printing.side r.high ∷ []) refl (side_form r.low f.0, (side_form r.high f.1, tt))
+    worded_spelled (codes "le") (printing.side r.low ∷ printing.side r.high ∷ []) refl
+    (side_form r.low f.0, (side_form r.high f.1, tt))
 
-facts_form : (w : List ℕ) (rs : List Le) → is_atom w ≡ true → facts_formed rs ≡ true → is_spelled (worded w (map printing.fact rs)) ≡ true
+facts_form : (w : List ℕ) (rs : List Le) → is_atom w ≡ true → facts_formed rs ≡ true
+    → is_spelled (worded w (map printing.fact rs)) ≡ true
 facts_form w rs a h = worded_spelled w (map printing.fact rs) a (each_spelled printing.fact fact_formed fact_form rs h)
 
 -- statements
@@ -192,11 +197,13 @@ proved_spelled (k ∷ ks) h =
     let p = and_parts (stmt_formed k.0) (all_true (map stmt_formed (stmts ks))) h in
     (k.1 p.0, proved_spelled ks p.1)
 
-block_form : (ks : List ProvedStmt) → all_true (map stmt_formed (stmts ks)) ≡ true → is_spelled (printing.block (map printing.stmt (stmts ks))) ≡ true
+block_form : (ks : List ProvedStmt) → all_true (map stmt_formed (stmts ks)) ≡ true
+    → is_spelled (printing.block (map printing.stmt (stmts ks))) ≡ true
 block_form ks h = worded_spelled (codes "do") (map printing.stmt (stmts ks)) refl (proved_spelled ks h)
 
 stmt_layer : (y : Stmt-F Stmt)
-    → (stmt_formed_step (map-Stmt Stmt Bool stmt_formed y) ≡ true → is_spelled (stmt_step (map-Stmt Stmt Sx printing.stmt y)) ≡ true)
+    → (stmt_formed_step (map-Stmt Stmt Bool stmt_formed y) ≡ true → is_spelled (stmt_step (map-Stmt Stmt Sx printing.stmt y))
+    ≡ true)
     → IsStmtSpelled (roll-Stmt y)
 stmt_layer y f h = ap is_spelled (fold-roll-Stmt Sx stmt_step y) ∙ f (sym (fold-roll-Stmt Bool stmt_formed_step y) ∙ h)
 
@@ -230,8 +237,15 @@ stmt_node (s.If test xs rs ks ms) =
     let f2 = and_parts (names_formed xs) (facts_formed rs && (one && two)) f1.1 in
     let f3 = and_parts (facts_formed rs) (one && two) f2.1 in
     let f4 = and_parts one two f3.1 in
-    worded_spelled (codes "if") (printing.expr test ∷ printing.names xs ∷ printing.keep rs ∷ printing.block (map printing.stmt (stmts ks)) ∷ printing.block (map printing.stmt (stmts ms)) ∷ [])
-    refl (expr_form test f1.0, (names_form xs f2.0, (facts_form (codes "keep") rs refl f3.0, (block_form ks f4.0, (block_form ms f4.1, tt))))))
+    worded_spelled (codes "if") (printing.expr test ∷ printing.names xs ∷ printing.keep rs
+    ∷ printing.block (map printing.stmt (stmts ks)) ∷ printing.block (map printing.stmt (stmts ms)) ∷ [])
+    refl (
+      expr_form test f1.0,
+      (
+        names_form xs f2.0,
+        (facts_form (codes "keep") rs refl f3.0, (block_form ks f4.0, (block_form ms f4.1, tt))),
+      ),
+    ))
 stmt_node (s.For x low high xs rs ks) =
     stmt_layer (s.For x low high xs rs (stmts ks))
     (λ h.
@@ -241,8 +255,15 @@ stmt_node (s.For x low high xs rs ks) =
     let f3 = and_parts (expr_formed high) (names_formed xs && (facts_formed rs && body)) f2.1 in
     let f4 = and_parts (names_formed xs) (facts_formed rs && body) f3.1 in
     let f5 = and_parts (facts_formed rs) body f4.1 in
-    worded_spelled (codes "for") (atom x ∷ printing.expr low ∷ printing.expr high ∷ printing.names xs ∷ printing.keep rs ∷ printing.block (map printing.stmt (stmts ks)) ∷ [])
-    refl (name_form x f1.0, (expr_form low f2.0, (expr_form high f3.0, (names_form xs f4.0, (facts_form (codes "keep") rs refl f5.0, (block_form ks f5.1, tt)))))))
+    worded_spelled (codes "for") (atom x ∷ printing.expr low ∷ printing.expr high ∷ printing.names xs ∷ printing.keep rs
+    ∷ printing.block (map printing.stmt (stmts ks)) ∷ [])
+    refl (
+      name_form x f1.0,
+      (
+        expr_form low f2.0,
+        (expr_form high f3.0, (names_form xs f4.0, (facts_form (codes "keep") rs refl f5.0, (block_form ks f5.1, tt)))),
+      ),
+    ))
 stmt_node (s.Map a x v) =
     stmt_layer (s.Map a x v)
     (λ h.
@@ -271,11 +292,14 @@ array_form : (a w : List ℕ) (n : Len) → is_atom w ≡ true → is_name a && 
     → is_spelled (list (atom a ∷ worded w (printing.len n ∷ []) ∷ [])) ≡ true
 array_form a w n k h =
     let f = and_parts (is_name a) (len_formed n) h in
-    list_spelled (atom a ∷ worded w (printing.len n ∷ []) ∷ []) (name_form a f.0, (worded_spelled w (printing.len n ∷ []) k (len_form n f.1, tt), tt))
+    list_spelled (atom a ∷ worded w (printing.len n ∷ []) ∷ [])
+    (name_form a f.0, (worded_spelled w (printing.len n ∷ []) k (len_form n f.1, tt), tt))
 
 param_form : (w : Param) → param_formed w ≡ true → is_spelled (printing.param w) ≡ true
-param_form (parameter.Word x) h = list_spelled (atom x ∷ atom (codes "word") ∷ []) (name_form x h, (atom_spelled (codes "word") refl, tt))
-param_form (parameter.Byte x) h = list_spelled (atom x ∷ atom (codes "byte") ∷ []) (name_form x h, (atom_spelled (codes "byte") refl, tt))
+param_form (parameter.Word x) h =
+    list_spelled (atom x ∷ atom (codes "word") ∷ []) (name_form x h, (atom_spelled (codes "word") refl, tt))
+param_form (parameter.Byte x) h =
+    list_spelled (atom x ∷ atom (codes "byte") ∷ []) (name_form x h, (atom_spelled (codes "byte") refl, tt))
 param_form (parameter.Bytes a n) h = array_form a (codes "bytes") n refl h
 param_form (parameter.Words a n) h = array_form a (codes "words") n refl h
 
@@ -283,7 +307,8 @@ ret_form : (w : Ret) → ret_formed w ≡ true → is_spelled (printing.ret w) �
 ret_form (result.Scalar x) h = name_form x h
 ret_form (result.Array a o) h =
     let f = and_parts (is_name a) (is_name o) h in
-    list_spelled (atom a ∷ atom (codes "in") ∷ atom o ∷ []) (name_form a f.0, (atom_spelled (codes "in") refl, (name_form o f.1, tt)))
+    list_spelled (atom a ∷ atom (codes "in") ∷ atom o ∷ [])
+    (name_form a f.0, (atom_spelled (codes "in") refl, (name_form o f.1, tt)))
 
 pub model_spelled : (m : Model) → model_formed m ≡ true → is_spelled (printing.model m) ≡ true
 model_spelled m h =
@@ -300,12 +325,18 @@ model_spelled m h =
     refl (
       name_form m.name f1.0,
       (
-        worded_spelled (codes "params") (map printing.param m.params) refl (each_spelled printing.param param_formed param_form m.params f2.0),
+        worded_spelled (codes "params") (map printing.param m.params) refl
+            (each_spelled printing.param param_formed param_form m.params f2.0),
         (
           facts_form (codes "require") m.requires_ refl f3.0,
           (
-            worded_spelled (codes "do") (map printing.stmt m.body) refl (each_spelled printing.stmt stmt_formed stmt_form m.body f4.0),
-            (worded_spelled (codes "ret") (map printing.ret m.rets) refl (each_spelled printing.ret ret_formed ret_form m.rets f4.1), tt),
+            worded_spelled (codes "do") (map printing.stmt m.body) refl
+                (each_spelled printing.stmt stmt_formed stmt_form m.body f4.0),
+            (
+              worded_spelled (codes "ret") (map printing.ret m.rets) refl
+                  (each_spelled printing.ret ret_formed ret_form m.rets f4.1),
+              tt,
+            ),
           ),
         ),
       ),

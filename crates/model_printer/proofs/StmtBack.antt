@@ -44,7 +44,8 @@ if_reads : (p q : Place) (r1 r2 r3 r4 r5 : Reading) (test : Expr) (xs : List Nam
     → list_stmt p (atom_reading q (codes "if") ∷ r1 ∷ r2 ∷ r3 ∷ r4 ∷ r5 ∷ []) ≡ Ok (v.If test xs rs one two)
 if_reads p q r1 r2 r3 r4 r5 test xs rs one two h1 h2 h3 h4 h5 = rw (h1, h2, h3, h4, h5) refl
 
-for_reads : (p q : Place) (r1 r2 r3 r4 r5 r6 : Reading) (x : Name) (low high : Expr) (xs : List Name) (rs : List Le) (body : List Stmt)
+for_reads : (p q : Place) (r1 r2 r3 r4 r5 r6 : Reading) (x : Name) (low high : Expr) (xs : List Name) (rs : List Le)
+    (body : List Stmt)
     → parts.name r1 ≡ Ok x → r2.expr ≡ Ok low → r3.expr ≡ Ok high → r4.names ≡ Ok xs → r5.keep ≡ Ok rs → r6.block ≡ Ok body
     → list_stmt p (atom_reading q (codes "for") ∷ r1 ∷ r2 ∷ r3 ∷ r4 ∷ r5 ∷ r6 ∷ []) ≡ Ok (v.For x low high xs rs body)
 for_reads p q r1 r2 r3 r4 r5 r6 x low high xs rs body h1 h2 h3 h4 h5 h6 = rw (h1, h2, h3, h4, h5, h6) refl
@@ -92,22 +93,27 @@ proved_back (k ∷ ks) h s =
     let g = and_parts (stmt_spellable k.0) (all_true (map stmt_spellable (stmts ks))) s in
     (k.1 f.0 g.0, proved_back ks f.1 g.1)
 
-pub block_back : (ws : List Stmt) → AreBack stmt printing.stmt ws → (c : Sx) → bare c ≡ bare (printing.block (map printing.stmt ws))
+pub block_back : (ws : List Stmt) → AreBack stmt printing.stmt ws → (c : Sx)
+    → bare c ≡ bare (printing.block (map printing.stmt ws))
     → (reading c).block ≡ Ok ws
 block_back ws back c b =
-    at_headed (codes "do") (map printing.stmt ws) c (λ r. r.block ≡ Ok ws) b (λ p q cs m. each_back stmt printing.stmt ws cs back m)
+    at_headed (codes "do") (map printing.stmt ws) c (λ r. r.block ≡ Ok ws) b
+    (λ p q cs m. each_back stmt printing.stmt ws cs back m)
 
 at_layer : (y : Stmt-F Stmt) (w : Stmt) → roll-Stmt y ≡ w
-    → (stmt_formed_step (map-Stmt Stmt Bool stmt_formed y) ≡ true → stmt_spellable_step (map-Stmt Stmt Bool stmt_spellable y) ≡ true
+    → (stmt_formed_step (map-Stmt Stmt Bool stmt_formed y) ≡ true → stmt_spellable_step (map-Stmt Stmt Bool stmt_spellable y)
+    ≡ true
     → (c : Sx) → bare c ≡ bare (stmt_step (map-Stmt Stmt Sx printing.stmt y)) → (reading c).stmt ≡ Ok w)
     → IsStmtBack (roll-Stmt y)
 at_layer y w is f h s c b =
     f (sym (fold-roll-Stmt Bool stmt_formed_step y) ∙ h) (sym (fold-roll-Stmt Bool stmt_spellable_step y) ∙ s) c
     (b ∙ ap bare (fold-roll-Stmt Sx stmt_step y)) ∙ ap answer_of (sym is)
 
-if_node : (test : Expr) (xs : List Name) (rs : List Le) (ks ms : List Proved) → IsStmtBack (roll-Stmt (s.If test xs rs (stmts ks) (stmts ms)))
+if_node : (test : Expr) (xs : List Name) (rs : List Le) (ks ms : List Proved)
+    → IsStmtBack (roll-Stmt (s.If test xs rs (stmts ks) (stmts ms)))
 if_node test xs rs ks ms =
-    at_layer (s.If test xs rs (stmts ks) (stmts ms)) (v.If test xs rs (stmts ks) (stmts ms)) (v.rolls-If test xs rs (stmts ks) (stmts ms))
+    at_layer (s.If test xs rs (stmts ks) (stmts ms)) (v.If test xs rs (stmts ks) (stmts ms))
+    (v.rolls-If test xs rs (stmts ks) (stmts ms))
     (λ h s c b.
     let one : Bool = all_true (map stmt_formed (stmts ks)) in
     let two : Bool = all_true (map stmt_formed (stmts ms)) in
@@ -115,16 +121,19 @@ if_node test xs rs ks ms =
     let f2 = and_parts (names_formed xs) (facts_formed rs && (one && two)) f1.1 in
     let f3 = and_parts (facts_formed rs) (one && two) f2.1 in
     let f4 = and_parts one two f3.1 in
-    let g1 = and_parts (expr_spellable test && all_true (map stmt_spellable (stmts ks))) (all_true (map stmt_spellable (stmts ms))) s in
+    let g1 = and_parts (expr_spellable test && all_true (map stmt_spellable (stmts ks)))
+    (all_true (map stmt_spellable (stmts ms))) s in
     let g2 = and_parts (expr_spellable test) (all_true (map stmt_spellable (stmts ks))) g1.0 in
-    at_worded (codes "if") (printing.expr test ∷ printing.names xs ∷ printing.keep rs ∷ printing.block (map printing.stmt (stmts ks)) ∷ printing.block (map printing.stmt (stmts ms)) ∷ [])
+    at_worded (codes "if") (printing.expr test ∷ printing.names xs ∷ printing.keep rs
+    ∷ printing.block (map printing.stmt (stmts ks)) ∷ printing.block (map printing.stmt (stmts ms)) ∷ [])
     c (λ r. r.stmt ≡ Ok (v.If test xs rs (stmts ks) (stmts ms))) b
     (λ p q d1 b1 d2 b2 d3 b3 d4 b4 d5 b5.
     if_reads p q (reading d1) (reading d2) (reading d3) (reading d4) (reading d5) test xs rs (stmts ks) (stmts ms)
     (expr_back test f1.0 g2.0 d1 b1) (names_back xs f2.0 d2 b2) (keep_back rs f3.0 d3 b3)
     (block_back (stmts ks) (proved_back ks f4.0 g2.1) d4 b4) (block_back (stmts ms) (proved_back ms f4.1 g1.1) d5 b5)))
 
-for_node : (x : Name) (low high : Expr) (xs : List Name) (rs : List Le) (ks : List Proved) → IsStmtBack (roll-Stmt (s.For x low high xs rs (stmts ks)))
+for_node : (x : Name) (low high : Expr) (xs : List Name) (rs : List Le) (ks : List Proved)
+    → IsStmtBack (roll-Stmt (s.For x low high xs rs (stmts ks)))
 for_node x low high xs rs ks =
     at_layer (s.For x low high xs rs (stmts ks)) (v.For x low high xs rs (stmts ks)) (v.rolls-For x low high xs rs (stmts ks))
     (λ h s c b.
@@ -136,7 +145,8 @@ for_node x low high xs rs ks =
     let f5 = and_parts (facts_formed rs) body f4.1 in
     let g1 = and_parts (expr_spellable low && expr_spellable high) (all_true (map stmt_spellable (stmts ks))) s in
     let g2 = and_parts (expr_spellable low) (expr_spellable high) g1.0 in
-    at_worded (codes "for") (atom x ∷ printing.expr low ∷ printing.expr high ∷ printing.names xs ∷ printing.keep rs ∷ printing.block (map printing.stmt (stmts ks)) ∷ [])
+    at_worded (codes "for") (atom x ∷ printing.expr low ∷ printing.expr high ∷ printing.names xs ∷ printing.keep rs
+    ∷ printing.block (map printing.stmt (stmts ks)) ∷ [])
     c (λ r. r.stmt ≡ Ok (v.For x low high xs rs (stmts ks))) b
     (λ p q d1 b1 d2 b2 d3 b3 d4 b4 d5 b5 d6 b6.
     for_reads p q (reading d1) (reading d2) (reading d3) (reading d4) (reading d5) (reading d6) x low high xs rs (stmts ks)
@@ -196,7 +206,8 @@ node (s.Fold t a x e) =
 pub stmt_back : (w : Stmt) → IsStmtBack w
 stmt_back = ind-Stmt IsStmtBack (λ z y is. subst (λ w. IsStmtBack (roll-Stmt w)) is (node y))
 
-both_back : (ws : List Stmt) → all_true (map stmt_formed ws) ≡ true → all_true (map stmt_spellable ws) ≡ true → AreBack stmt printing.stmt ws
+both_back : (ws : List Stmt) → all_true (map stmt_formed ws) ≡ true → all_true (map stmt_spellable ws) ≡ true
+    → AreBack stmt printing.stmt ws
 both_back [] h s = tt
 both_back (w ∷ ws) h s =
     let f = and_parts (stmt_formed w) (all_true (map stmt_formed ws)) h in

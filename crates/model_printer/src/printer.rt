@@ -30,7 +30,8 @@ pub fn print_expr(alloc: Global, e: &Expr) -> Result<Text, NoMemory>
 #[tactic(auto, using(crate::proofs::Round::printed_model))]
 pub fn print_model(alloc: Global, m: &Model) -> Result<Text, NoMemory>
     ensures spelling { IfOk result (λ printed. printed ≡ printing.spelling m.now) }
-    ensures read_back { IfOk result (λ printed. (word : ℕ) → Spellable m.now → Within m.now → levels (printing.model m.now) ≤ deepest
+    ensures read_back { IfOk result
+        (λ printed. (word : ℕ) → Spellable m.now → Within m.now → levels (printing.model m.now) ≤ deepest
         → reading.read_model word printed ≡ Ok m.now) }
 {
     let form = model_form(alloc, m)?;

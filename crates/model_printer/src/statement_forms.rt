@@ -82,7 +82,8 @@ fn put_form(alloc: Global, a: &Name, index: &Expr, value: &Expr) -> Result<Sx, N
 
 fn move_form(alloc: Global, b: &Name, a: &Name, index: &Expr, value: &Expr) -> Result<Sx, NoMemory>
     ensures form { IfOk result (λ form. form ≡ printing.move_form b.now a.now index.now value.now) }
-    ensures formed { OnOk result (is_name b.now && (is_name a.now && (formed.expr_formed index.now && formed.expr_formed value.now)) ≡ true) }
+    ensures formed { OnOk result (is_name b.now
+        && (is_name a.now && (formed.expr_formed index.now && formed.expr_formed value.now)) ≡ true) }
 {
     let mut forms = begun(alloc, b"move")?;
     forms.push(name_form(alloc, b)?)?;
@@ -108,7 +109,8 @@ fn push_kept(
 /// The word, the test, the names and the facts of an `if`.
 fn if_begun(alloc: Global, test: &Expr, names: &[Name], keep: &[Le]) -> Result<List<Sx>, NoMemory>
     ensures form { IfOk result (λ forms. forms ≡ printing.if_begun test.now names.now keep.now) }
-    ensures formed { OnOk result (formed.expr_formed test.now && (formed.names_formed names.now && formed.facts_formed keep.now) ≡ true) }
+    ensures formed { OnOk result (formed.expr_formed test.now && (formed.names_formed names.now && formed.facts_formed keep.now)
+        ≡ true) }
 {
     let mut forms = begun(alloc, b"if")?;
     forms.push(expr_form(alloc, test)?)?;

@@ -1,10 +1,12 @@
 -- The sides of requirements as linear forms with at most 16 names and with numbers of at most 2^40. Nothing
 -- shrinks from a part to the whole but under the factor 0, so each part is formed, and tested, by itself.
-use Rattle.std.specs.Prelude.{ℕ, ◌+◌, ◌*◌, ◌^◌, nat_le, nat_eq, List, [], ◌∷◌, length, Result, Ok, Err, if◌then◌else◌}
+use Rattle.std.specs.Prelude.{ℕ, Bool, ◌&&◌, ◌+◌, ◌*◌, ◌^◌, nat_le, nat_eq, List, [], ◌∷◌, length, Result, Ok, Err, is_ok}
+use Rattle.std.specs.Prelude.{if◌then◌else◌}
 use Rattle.rup_base.specs.declared.refusal.TypeWhy.{TypeWhy}
 use Rattle.rup_base.specs.declared.refusal.TypeWhy.TheVariants as why
 use Rattle.model_syntax.specs.declared.stmt.Lin.{Lin, Lin-F, fold-Lin}
 use Rattle.model_syntax.specs.declared.stmt.Lin.TheOpen as l
+use Rattle.model_syntax.specs.declared.stmt.Le.{Le}
 use Rattle.model_syntax.specs.declared.scope.Term.{Term}
 use Rattle.model_syntax.specs.declared.scope.Linear.{Linear}
 use Rattle.model_syntax.specs.Answer.{◌>>=◌}
@@ -74,3 +76,7 @@ linear_step (l.Scale k p) = do
 -- a side as a linear form, where it and each part of it keeps the limits
 abbrev pub linear : Lin → Result Linear TypeWhy
 linear = fold-Lin (Result Linear TypeWhy) linear_step
+
+-- both sides of a fact keep the limits in each part
+abbrev pub is_narrow : Le → Bool
+is_narrow r = is_ok (linear r.low) && is_ok (linear r.high)

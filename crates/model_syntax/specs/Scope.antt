@@ -1,5 +1,6 @@
 -- The names in scope and their types: a finite map, written as a list in which the last entry of a name counts.
-use Rattle.std.specs.Prelude.{nat_eq, Bool, true, false, ◌&&◌, List, [], ◌∷◌, ◌++◌, Option, Some, None, Result, Ok, Err, if◌then◌else◌}
+use Rattle.std.specs.Prelude.{nat_eq, Bool, true, false, ◌&&◌, List, [], ◌∷◌, ◌++◌, Option, Some, None, Result, Ok, Err}
+use Rattle.std.specs.Prelude.{if◌then◌else◌}
 use Rattle.std.specs.Option.{option_or}
 use Rattle.rup_base.specs.declared.refusal.TypeWhy.{TypeWhy}
 use Rattle.rup_base.specs.declared.refusal.TypeWhy.TheVariants as why

@@ -73,13 +73,15 @@ IsTyped numbers c env = (x : Name) (t : NameType) → look_up c x ≡ Some t →
 abbrev pub ExpressionLaw : Type 0
 ExpressionLaw =
     (numbers : Name → ℕ) (c : Scope) (env : Env) → IsTyped numbers c env
-    → (e : Expr) → expr_formed e ≡ true → expr_spellable e ≡ true → (t : Scalar) → type_of e c ≡ Ok t → is_number t (eval e env) ≡ true
+    → (e : Expr) → expr_formed e ≡ true → expr_spellable e ≡ true → (t : Scalar) → type_of e c ≡ Ok t
+    → is_number t (eval e env) ≡ true
 
 -- a well typed statement takes an environment of the scope before it to one of the scope after it
 abbrev pub StatementLaw : Type 0
 StatementLaw =
     (numbers : Name → ℕ) (s : Stmt) → stmt_formed s ≡ true → stmt_spellable s ≡ true
-    → (k : ℕ) (c : Scope) (after : types.State) (env : Env) → types.stmt s (k, c) ≡ Ok after → IsTyped numbers c env → IsTyped numbers after.1 (run s env)
+    → (k : ℕ) (c : Scope) (after : types.State) (env : Env) → types.stmt s (k, c) ≡ Ok after → IsTyped numbers c env
+    → IsTyped numbers after.1 (run s env)
 
 -- The value's definition is total at arrays: a length is cut at the greatest word, and an array of bytes takes the lowest
 -- byte of a number. In a well typed model nothing is cut.
@@ -90,7 +92,8 @@ pub record NothingIsCut (numbers : Name → ℕ) (c : Scope) (env : Env) (a : Na
   pub elements_put : (i : ℕ) (e : Expr) → expr_formed e ≡ true → expr_spellable e ≡ true → type_of e c ≡ Ok t
       → elements (with_element i (eval e env) (value_of env a)) ≡ set (elements (value_of env a)) i (eval e env)
   -- an array with a new element for each old one has the new elements
-  pub elements_mapped : (x : Name) (e : Expr) → expr_formed e ≡ true → expr_spellable e ≡ true → type_of e (bind x (One t) c) ≡ Ok t
+  pub elements_mapped : (x : Name) (e : Expr) → expr_formed e ≡ true → expr_spellable e ≡ true
+      → type_of e (bind x (One t) c) ≡ Ok t
       → elements (with_each (element_of x e env) (value_of env a)) ≡ map (element_of x e env) (elements (value_of env a))
 
 abbrev pub ArrayLaw : Type 0
@@ -146,4 +149,5 @@ IsSound m args found = AreResults (end_scope m) (start m.params args []) m.rets 
 
 -- a well typed model gives results of their kinds at arguments that meet it
 abbrev pub ModelLaw : Type 0
-ModelLaw = (m : Model) (args : List Arg) → Well m → model_formed m ≡ true → Spellable m → Meets m args → IsSound m args (results m args)
+ModelLaw = (m : Model) (args : List Arg) → Well m → model_formed m ≡ true → Spellable m → Meets m args
+    → IsSound m args (results m args)

@@ -1,5 +1,6 @@
 -- Well typed models, and the place and cause of the first fault of the others, in text order.
-use Rattle.std.specs.Prelude.{◌≡◌, ℕ, ◌+◌, nat_le, nat_lt, List, [], ◌∷◌, ◌++◌, length, map, Result, Ok, Err, Some, None, if◌then◌else◌}
+use Rattle.std.specs.Prelude.{◌≡◌, ℕ, ◌+◌, nat_le, nat_lt, List, [], ◌∷◌, ◌++◌, length, map, Result, Ok, Err, Some, None}
+use Rattle.std.specs.Prelude.{if◌then◌else◌}
 use Rattle.rup_base.specs.declared.arg.Kind.{Kind}
 use Rattle.rup_base.specs.declared.arg.Kind.TheVariants as kind
 use Rattle.rup_base.specs.declared.refusal.TypePlace.{TypePlace}
@@ -28,7 +29,8 @@ use Rattle.model_syntax.specs.ExprType.{type_of, wanted}
 use Rattle.model_syntax.specs.Limits.{next}
 use Rattle.model_syntax.specs.Linear.{linear}
 use Rattle.model_syntax.specs.Names.{Name, same, listed}
-use Rattle.model_syntax.specs.Scope.{Scope, look_up, bind, same_type, known, scalar_in, array_in, element_in, scalar_may_take, array_may_take, agreed}
+use Rattle.model_syntax.specs.Scope.{Scope, look_up, bind, same_type, known, scalar_in, array_in, element_in, scalar_may_take}
+use Rattle.model_syntax.specs.Scope.{array_may_take, agreed}
 
 -- a rule holds, or says its first fault
 abbrev pub Rule : Type 0

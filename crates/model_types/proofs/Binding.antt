@@ -20,5 +20,8 @@ module _ {S : Type 0} (c : Scope) (before after : IndexMap Name NameType S) wher
       → key ≡ x → value ≡ t → name ≡ x → pushed ≡ c ++ (record { name = name; shape = t }) ∷ []
       → Updates same before after key (Some value) → Tells before c → Tells after pushed
   tells_pushed pushed x key name t value of_key of_value of_name is put told =
-      let here : Updates same before after x (Some t) = subst (λ k. Updates same before after k (Some t)) of_key (subst (λ v. Updates same before after key (Some v)) of_value put) in
-      subst (Tells after) (sym (is ∙ ap (λ (n : Name). c ++ (record { name = n; shape = t }) ∷ []) of_name)) (tells_bound x t told here)
+      let here : Updates same before after x (Some t) =
+      subst (λ k. Updates same before after k (Some t)) of_key
+      (subst (λ v. Updates same before after key (Some v)) of_value put) in
+      subst (Tells after) (sym (is ∙ ap (λ (n : Name). c ++ (record { name = n; shape = t }) ∷ []) of_name))
+      (tells_bound x t told here)

@@ -41,10 +41,12 @@ loop k c x low high xs keep body = do
 pub if_in_parts : (k : ℕ) (c : Scope) (test : Expr) (xs : List Name) (keep : List Le) (first second : List Block)
     → stmt_step (s.If test xs keep first second) (k, c) ≡ branches k c test xs keep first second
 unfolding branches enter_if leave_if
-if_in_parts k c test xs keep first second = then_more (at (Statement k) (wanted Flag (type_of test c))) (λ _. at (Statement k) (distinct [] xs)) _
+if_in_parts k c test xs keep first second =
+    then_more (at (Statement k) (wanted Flag (type_of test c))) (λ _. at (Statement k) (distinct [] xs)) _
 
 -- five questions before the body, then the body
-five : {A B C D F G H E : Type 0} (a : Result A E) (b : Result B E) (c : Result C E) (d : Result D E) (f : Result F E) (g : G) (more : G → Result H E)
+five : {A B C D F G H E : Type 0} (a : Result A E) (b : Result B E) (c : Result C E) (d : Result D E) (f : Result F E) (g : G)
+    (more : G → Result H E)
     → (a >>= (λ _. b >>= (λ _. c >>= (λ _. d >>= (λ _. f >>= (λ _. more g))))))
     ≡ ((a >>= (λ _. b >>= (λ _. c >>= (λ _. d >>= (λ _. f >>= (λ _. Ok g)))))) >>= more)
 five (Err fault) b c d f g more = refl
@@ -58,7 +60,8 @@ pub for_in_parts : (k : ℕ) (c : Scope) (x : Name) (low high : Expr) (xs : List
     → stmt_step (s.For x low high xs keep body) (k, c) ≡ loop k c x low high xs keep body
 unfolding loop enter_for leave_for
 for_in_parts k c x low high xs keep body =
-    five (at (Statement k) (counter x xs c)) (at (Statement k) (wanted Word (type_of low c))) (at (Statement k) (wanted Word (type_of high c)))
+    five (at (Statement k) (counter x xs c)) (at (Statement k) (wanted Word (type_of low c)))
+    (at (Statement k) (wanted Word (type_of high c)))
     (at (Statement k) (distinct_known c [] xs)) (at (Statement k) (facts keep (bind x (One Word) c))) (bind x (One Word) c) _
 
 -- the same of a statement of the model
@@ -71,7 +74,8 @@ pub if_whole : (w : Stmt) (state : State) (test : Expr) (xs : List Name) (keep :
     → branches state.0 state.1 test xs keep (map stmt first) (map stmt second) ≡ stmt w state
 if_whole w state test xs keep first second is =
     sym (if_in_parts state.0 state.1 test xs keep (map stmt first) (map stmt second))
-    ∙ sym (ap (λ (b : Block). b state) (at_stmt (s.If test xs keep first second) w (v.rolls-If test xs keep first second ∙ sym is)))
+    ∙ sym (ap (λ (b : Block). b state)
+    (at_stmt (s.If test xs keep first second) w (v.rolls-If test xs keep first second ∙ sym is)))
 
 pub for_whole : (w : Stmt) (state : State) (x : Name) (low high : Expr) (xs : List Name) (keep : List Le) (body : List Stmt)
     → w ≡ v.For x low high xs keep body

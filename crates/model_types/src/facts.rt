@@ -1,7 +1,8 @@
 //! Requirements and kept facts.
-ghost use Rattle.std.specs.Prelude.{◌≡◌};
+ghost use Rattle.std.specs.Prelude.{◌≡◌, is_ok, IfOk};
 ghost use Rattle.rup_base.specs.Answers.{Answers};
 ghost use Rattle.rup_base.specs.declared.refusal.TypePlace.TheVariants.{Require};
+ghost use Rattle.model_syntax.specs.Linear as forms;
 ghost use Rattle.model_syntax.specs.Types as spec;
 
 use crate::in_scope::scalar_in;
@@ -9,7 +10,7 @@ use crate::linear::linear;
 use crate::place::at;
 use crate::scope::Scope;
 use model_syntax::{Le, Lin};
-use rup_base::{Fail, TypePlace, TypeWhy};
+use rup_base::{Fail, NoMemory, TypePlace, TypeWhy};
 use std::alloc::Global;
 
 /// The greatest number of requirements.
@@ -73,4 +74,24 @@ pub fn requirements(alloc: Global, rs: &[Le], scope: &Scope) -> Result<(), Fail>
         k = k.saturating_add(1);
     }
     Ok(())
+}
+
+/// Whether a side is a linear form within the limits, and each part of it. A refusal's place is of no interest here.
+#[tactic(auto, using(crate::proofs::AtPlace::at_is_ok))]
+fn is_linear(alloc: Global, side: &Lin) -> Result<bool, NoMemory>
+    ensures { IfOk result (λ kept. kept ≡ is_ok (forms.linear side.now)) }
+{
+    match linear(alloc, TypePlace::Require(0), side) {
+        Ok(_) => Ok(true),
+        Err(Fail::Refused(_)) => Ok(false),
+        Err(Fail::NoMemory) => Err(NoMemory),
+    }
+}
+
+/// Whether both sides of a fact, and each part of them, are linear forms within the limits, as typing asks of requirements and
+/// of kept facts: at most 16 names, and no factor or constant over 2^40.
+pub fn is_narrow(alloc: Global, fact: &Le) -> Result<bool, NoMemory>
+    ensures { IfOk result (λ narrow. narrow ≡ forms.is_narrow fact.now) }
+{
+    Ok(is_linear(alloc, &fact.low)? && is_linear(alloc, &fact.high)?)
 }

@@ -16,6 +16,7 @@ mod stmt_type;
 mod typed;
 
 pub use checking::check_types;
+pub use facts::is_narrow;
 pub use typed::Typed;
 
 #[cfg(test)]

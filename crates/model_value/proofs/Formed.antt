@@ -1,5 +1,6 @@
 -- The sides of a well typed model's requirements keep the limits of linear forms.
-use Rattle.std.proofs.Common.{◌≡◌, refl, ℕ, nat_lt, Bool, true, false, List, [], ◌∷◌, Result, Ok, Err, is_ok, IsTrue, if◌then◌else◌}
+use Rattle.std.proofs.Common.{◌≡◌, refl, ℕ, nat_lt, Bool, true, false, List, [], ◌∷◌, Result, Ok, Err, is_ok, IsTrue}
+use Rattle.std.proofs.Common.{if◌then◌else◌}
 use Rattle.rup_base.specs.declared.refusal.TypePlace.{TypePlace}
 use Rattle.rup_base.specs.declared.refusal.TypeWhy.{TypeWhy}
 use Rattle.rup_base.specs.declared.refusal.TypeWhy.TheVariants as why
@@ -13,7 +14,8 @@ use Rattle.model_syntax.specs.Types as types
 use Rattle.model_value.specs.Formed.{HasForm, Formed}
 
 -- the first of two questions in turn has its answer where the second has
-first_answered : {A B E : Type 0} (first : Result A E) (second : A → Result B E) (b : B) → (first >>= second) ≡ Ok b → (a : A) × ((first ≡ Ok a) × (second a ≡ Ok b))
+first_answered : {A B E : Type 0} (first : Result A E) (second : A → Result B E) (b : B) → (first >>= second) ≡ Ok b
+    → (a : A) × ((first ≡ Ok a) × (second a ≡ Ok b))
 first_answered (Ok a) second b is = (a, (refl, is))
 first_answered (Err why) second b is = absurd (cc)
 
@@ -32,7 +34,8 @@ fact_formed r c is =
     let high = first_answered (linear r.high) _ tt low.1.1 in
     (answered (linear r.low) low.0 low.1.0, answered (linear r.high) high.0 high.1.0)
 
-requirement_formed : (k : ℕ) (r : Le) (c : Scope) (few : Bool) → nat_lt k 4096 ≡ few → types.requirement k r c ≡ Ok tt → HasForm r.low × HasForm r.high
+requirement_formed : (k : ℕ) (r : Le) (c : Scope) (few : Bool) → nat_lt k 4096 ≡ few → types.requirement k r c ≡ Ok tt
+    → HasForm r.low × HasForm r.high
 requirement_formed k r c few is_few is = by_few few (rw is_few at is) where
   by_few : (b : Bool) → (if b then types.fact r c else Err why.WideForm) ≡ Ok tt → HasForm r.low × HasForm r.high
   by_few true is = fact_formed r c is

@@ -1,5 +1,6 @@
 -- What an environment tells after a put, and puts into environments that tell the same.
-use Rattle.std.proofs.Common.{◌≡◌, refl, sym, ◌∙◌, ap, arith, ◌≤◌, ◌-◌, Bool, true, false, List, [], ◌∷◌, length, take, drop, get_or, Option, Some, None, if◌then◌else◌}
+use Rattle.std.proofs.Common.{◌≡◌, refl, sym, ◌∙◌, ap, arith, ◌≤◌, ◌-◌, Bool, true, false, List, [], ◌∷◌, length, take, drop}
+use Rattle.std.proofs.Common.{get_or, Option, Some, None, if◌then◌else◌}
 use Rattle.rup_base.specs.declared.arg.Arg.{Arg}
 use Rattle.rup_base.specs.declared.arg.Arg.TheVariants.{Word}
 use Rattle.model_syntax.specs.Environment.{Env, value_of, put, put_some, carry}
@@ -32,7 +33,8 @@ pub put_alike : (x : Name) (v w : Arg) (one two : Env) → v ≡ w → SameValue
 put_alike x v w one two is alike = λ y. value_put x y v one ∙ (λ j. if same x y then Some (is j) else alike y j)
     ∙ sym (value_put x y w two)
 
-pub some_alike : (x : Name) (v w : Option Arg) (one two : Env) → v ≡ w → SameValues one two → SameValues (put_some x v one) (put_some x w two)
+pub some_alike : (x : Name) (v w : Option Arg) (one two : Env) → v ≡ w → SameValues one two
+    → SameValues (put_some x v one) (put_some x w two)
 some_alike x v w one two is alike = λ y. (λ j. value_of (put_some x (is j) one) y) ∙ by w y
   where
     by : (o : Option Arg) → SameValues (put_some x o one) (put_some x o two)

@@ -1,5 +1,6 @@
 -- A block after which the names that it does not list have their values from before carries the listed ones over.
-use Rattle.std.proofs.Common.{◌≡◌, refl, sym, ◌∙◌, ap, arith, ℕ, zero, suc, ◌+◌, ◌<◌, Bool, true, false, ◌||◌, List, [], ◌∷◌, ◌++◌, map, fold, length, drop, set, get_or, Option, Some, None, if◌then◌else◌}
+use Rattle.std.proofs.Common.{◌≡◌, refl, sym, ◌∙◌, ap, arith, ℕ, zero, suc, ◌+◌, ◌<◌, Bool, true, false, ◌||◌, List, [], ◌∷◌}
+use Rattle.std.proofs.Common.{◌++◌, map, fold, length, drop, set, get_or, Option, Some, None, if◌then◌else◌}
 use Rattle.rup_base.specs.declared.arg.Arg.{Arg}
 use Rattle.rup_base.specs.declared.arg.Arg.TheVariants.{Word}
 use Rattle.model_syntax.specs.declared.stmt.Stmt.{Stmt}
@@ -28,7 +29,8 @@ none_more false true = refl
 none_more false false = refl
 
 -- a name is among the names with one more
-listed_add : (y : Name) (xs back : List Name) (z : Name) → listed y (add xs back z) ≡ (listed y back || (if listed y xs then false else same y z))
+listed_add : (y : Name) (xs back : List Name) (z : Name)
+    → listed y (add xs back z) ≡ (listed y back || (if listed y xs then false else same y z))
 listed_add y xs back z = by (listed z xs) refl (listed z back) refl (same y z) refl
   where
     by : (l : Bool) → listed z xs ≡ l → (b : Bool) → listed z back ≡ b → (one : Bool) → same y z ≡ one
@@ -54,7 +56,8 @@ either true q r l = refl
 either false q r true = refl
 either false q r false = refl
 
-listed_added : (y : Name) (xs back zs : List Name) → listed y (fold (add xs) back zs) ≡ (listed y back || (if listed y xs then false else listed y zs))
+listed_added : (y : Name) (xs back zs : List Name)
+    → listed y (fold (add xs) back zs) ≡ (listed y back || (if listed y xs then false else listed y zs))
 listed_added y xs back [] = sym (none_more (listed y back) (listed y xs))
 listed_added y xs back (z ∷ zs) =
     listed_added y xs (add xs back z) zs ∙ ap (λ b. b || (if listed y xs then false else listed y zs)) (listed_add y xs back z)
@@ -66,14 +69,16 @@ changed_in y [] = false
 changed_in y (w ∷ ws) = listed y (changes w) || changed_in y ws
 
 listed_gathered : (y : Name) (xs back : List Name) (ws : List Stmt)
-    → listed y (fold (λ so_far w. fold (add xs) so_far (changes w)) back ws) ≡ (listed y back || (if listed y xs then false else changed_in y ws))
+    → listed y (fold (λ so_far w. fold (add xs) so_far (changes w)) back ws)
+    ≡ (listed y back || (if listed y xs then false else changed_in y ws))
 listed_gathered y xs back [] = sym (none_more (listed y back) (listed y xs))
 listed_gathered y xs back (w ∷ ws) =
     listed_gathered y xs (fold (add xs) back (changes w)) ws
     ∙ ap (λ b. b || (if listed y xs then false else changed_in y ws)) (listed_added y xs back (changes w))
     ∙ either (listed y back) (listed y (changes w)) (changed_in y ws) (listed y xs)
 
-comes_back : (y : Name) (xs : List Name) (ws : List Stmt) → listed y (come_back xs ws) ≡ (if listed y xs then false else changed_in y ws)
+comes_back : (y : Name) (xs : List Name) (ws : List Stmt)
+    → listed y (come_back xs ws) ≡ (if listed y xs then false else changed_in y ws)
 comes_back y xs ws = listed_gathered y xs [] ws
 
 neither : (p q : Bool) → (p || q) ≡ false → (p ≡ false) × (q ≡ false)
@@ -111,7 +116,8 @@ carried_none (x ∷ xs) inner outer y none = carried_none xs inner (put_some x (
 carried_some : (xs : List Name) (inner outer : Env) (y : Name) (v : Arg) → listed y xs ≡ true → value_of inner y ≡ Some v
     → value_of (carry xs inner outer) y ≡ Some v
 carried_some [] inner outer y v is at = absurd (let bad : false ≡ true = is in cc)
-carried_some (x ∷ xs) inner outer y v is at = by (listed y xs) refl (same y x) refl (λ o more. carried_some xs inner o y v more at)
+carried_some (x ∷ xs) inner outer y v is at =
+    by (listed y xs) refl (same y x) refl (λ o more. carried_some xs inner o y v more at)
   where
     by : (b : Bool) → listed y xs ≡ b → (d : Bool) → same y x ≡ d
         → ((o : Env) → listed y xs ≡ true → value_of (carry xs inner o) y ≡ Some v)
@@ -178,13 +184,15 @@ module _ (y : Name) (env : Env) where
 
   apart_block : (ws : List Stmt) → changed_in y ws ≡ false → BlockMay Keeps Apart put_keeps ws
   apart_block [] gone = tt
-  apart_block (w ∷ ws) gone = let p = neither (listed y (changes w)) (changed_in y ws) gone in (apart_all (changes w) p.0, apart_block ws p.1)
+  apart_block (w ∷ ws) gone = let p = neither (listed y (changes w)) (changed_in y ws) gone in
+      (apart_all (changes w) p.0, apart_block ws p.1)
 
   -- a name that is not listed and does not come back keeps its value
   block_keeps : (xs : List Name) (ws : List Stmt) (start : Env) → listed y xs ≡ false → listed y (come_back xs ws) ≡ false
       → Keeps start → Keeps (in_turn (map run ws) start)
   block_keeps xs ws start out gone keeps =
-      let none : changed_in y ws ≡ false = ap (λ b. if b then false else changed_in y ws) (sym out) ∙ sym (comes_back y xs ws) ∙ gone in
+      let none : changed_in y ws ≡ false = ap (λ b. if b then false else changed_in y ws) (sym out) ∙ sym (comes_back y xs ws)
+      ∙ gone in
       block_kept Keeps Apart put_keeps ws (apart_block ws none) start keeps
 
 -- Where what comes back is what may change and is not listed, the listed names carry over.
@@ -209,7 +217,8 @@ restores_alike back outer inner end after alike restores = λ y. restores y
 pub block_carries : (xs : List Name) (ws : List Stmt) (env : Env)
     → Restores (come_back xs ws) env (in_turn (map run ws) env) (carry xs (in_turn (map run ws) env) env)
 block_carries xs ws env =
-    carries (come_back xs ws) xs env (in_turn (map run ws) env) (λ y. stays y xs ws) (λ y out gone. block_keeps y env xs ws env out gone refl) (λ y. block_loses y env ws env (λ none. none))
+    carries (come_back xs ws) xs env (in_turn (map run ws) env) (λ y. stays y xs ws)
+    (λ y out gone. block_keeps y env xs ws env out gone refl) (λ y. block_loses y env ws env (λ none. none))
 
 module _ (x : Name) (i : ℕ) (xs : List Name) (ws : List Stmt) (env : Env) where
   abbrev front : List Name
@@ -237,16 +246,19 @@ module _ (x : Name) (i : ℕ) (xs : List Name) (ws : List Stmt) (env : Env) wher
 
   -- a name that is not the counter has its value from before the turn, or from its end
   pub other_carries : (y : Name) → listed y front ≡ false
-      → value_of (loop_turn x xs (map run ws) i env) y ≡ (if listed y (come_back xs ws) then value_of env y else value_of (in_turn (map run ws) start) y)
+      → value_of (loop_turn x xs (map run ws) i env) y
+      ≡ (if listed y (come_back xs ws) then value_of env y else value_of (in_turn (map run ws) start) y)
   other_carries y out =
       turn_carries y
-      ∙ ap (λ b. if b then value_of env y else value_of (in_turn (map run ws) start) y) (listed_both y front (come_back xs ws) ∙ ap (λ b. b || listed y (come_back xs ws)) out)
+      ∙ ap (λ b. if b then value_of env y else value_of (in_turn (map run ws) start) y)
+      (listed_both y front (come_back xs ws) ∙ ap (λ b. b || listed y (come_back xs ws)) out)
 
   -- the counter has its value from before the turn
   pub counter_carries : (y : Name) → listed y front ≡ true → value_of (loop_turn x xs (map run ws) i env) y ≡ value_of env y
   counter_carries y is =
       turn_carries y
-      ∙ ap (λ b. if b then value_of env y else value_of (in_turn (map run ws) start) y) (listed_both y front (come_back xs ws) ∙ ap (λ b. b || listed y (come_back xs ws)) is)
+      ∙ ap (λ b. if b then value_of env y else value_of (in_turn (map run ws) start) y)
+      (listed_both y front (come_back xs ws) ∙ ap (λ b. b || listed y (come_back xs ws)) is)
 
 -- another name is not the counter
 pub not_hidden : (x y : Name) (xs : List Name) → same x y ≡ false → listed y (add xs [] x) ≡ false
@@ -272,7 +284,8 @@ all_handed_back (x ∷ xs) outer of y = all_handed_back xs outer (λ z. if same 
     ∙ by (same y x) refl (listed y xs)
   where
     by : (one : Bool) → same y x ≡ one → (l : Bool)
-        → (if l then value_of outer y else (if same x y then value_of outer x else of y)) ≡ (if (same y x || l) then value_of outer y else of y)
+        → (if l then value_of outer y else (if same x y then value_of outer x else of y))
+        ≡ (if (same y x || l) then value_of outer y else of y)
     by true one true = rw one refl
     by true one false = rw (same_back x y, one) (ap (value_of outer) (sym (same_is y x one)))
     by false one true = rw one refl
@@ -283,10 +296,12 @@ pub handed_alike : (xs : List Name) (vs : List (Option Arg)) (of at : Name → O
 handed_alike [] vs of at alike y = alike y
 handed_alike (x ∷ xs) [] of at alike y = alike y
 handed_alike (x ∷ xs) (v ∷ vs) of at alike y =
-    handed_alike xs vs (λ z. if same x z then v else of z) (λ z. if same x z then v else at z) (λ z. λ j. if same x z then v else alike z j) y
+    handed_alike xs vs (λ z. if same x z then v else of z) (λ z. if same x z then v else at z)
+    (λ z. λ j. if same x z then v else alike z j) y
 
 -- a name more is handed back
-pub one_handed_back : (back : List Name) (kept : List (Option Arg)) (i : ℕ) (x : Name) (v n : Option Arg) (before after : Env) (end : Name → Option Arg)
+pub one_handed_back : (back : List Name) (kept : List (Option Arg)) (i : ℕ) (x : Name) (v n : Option Arg) (before after : Env)
+    (end : Name → Option Arg)
     → i < length back → length kept ≡ length back → x ≡ get_or back i x → v ≡ get_or kept i v → Assigns x v before after
     → ((y : Name) → handed_back (drop i back) (drop i kept) (value_of before) y ≡ end y)
     → (y : Name) → handed_back (drop (i + 1) back) (drop (i + 1) (set kept i n)) (value_of after) y ≡ end y
@@ -295,7 +310,8 @@ one_handed_back back kept i x v n before after end inside long is of gives so_fa
     let held : i < length kept = omega (arith, inside, long) in
     let names : drop i back ≡ x ∷ drop (suc i) back = front_of back i x inside ∙ ap (λ h. h ∷ drop (suc i) back) (sym is) in
     let values : drop i kept ≡ v ∷ drop (suc i) kept = front_of kept i v held ∙ ap (λ h. h ∷ drop (suc i) kept) (sym of) in
-    rw (one, behind kept i n) (handed_alike (drop (suc i) back) (drop (suc i) kept) (value_of after) (λ z. if same x z then v else value_of before z) gives y
+    rw (one, behind kept i n) (handed_alike (drop (suc i) back) (drop (suc i) kept) (value_of after)
+    (λ z. if same x z then v else value_of before z) gives y
     ∙ (λ j. handed_back (sym names j) (sym values j) (value_of before) y) ∙ so_far y)
 
 pub set_length : {A : Type 0} (xs : List A) (i : ℕ) (a : A) → length (set xs i a) ≡ length xs

@@ -1,5 +1,6 @@
 -- What a statement, a block and a turn add to what was run.
-use Rattle.std.proofs.Common.{◌≡◌, sym, ◌∙◌, ap, arith, ℕ, suc, ◌+◌, ◌<◌, ◌≤◌, refl, Bool, true, false, List, [], ◌∷◌, map, length, drop, get_or, Option, Some, Result, Ok, Err, OnOk, if◌then◌else◌}
+use Rattle.std.proofs.Common.{◌≡◌, sym, ◌∙◌, ap, arith, ℕ, suc, ◌+◌, ◌<◌, ◌≤◌, refl, Bool, true, false, List, [], ◌∷◌, map}
+use Rattle.std.proofs.Common.{length, drop, get_or, Option, Some, Result, Ok, Err, OnOk, if◌then◌else◌}
 use Rattle.rup_base.specs.declared.arg.Arg.{Arg}
 use Rattle.rup_base.specs.declared.arg.Arg.TheVariants.{Word}
 use Rattle.model_syntax.specs.declared.stmt.Stmt.{Stmt}
@@ -10,7 +11,8 @@ use Rattle.model_value.proofs.Puts.{value_put}
 use Rattle.model_syntax.specs.Value.{Turn, run, in_turn, folded, loop_turn, numbers}
 use Rattle.model_value.specs.Bindings.{SameValues}
 use Rattle.model_value.specs.Blocks.{add, come_back, handed_back, Restores, SameButFor}
-use Rattle.model_value.proofs.Restoring.{front_of, restores_alike, block_carries, other_carries, counter_carries, not_hidden, all_handed_back}
+use Rattle.model_value.proofs.Restoring.{front_of, restores_alike, block_carries, other_carries, counter_carries, not_hidden}
+use Rattle.model_value.proofs.Restoring.{all_handed_back}
 use Rattle.model_value.proofs.Alike.{block_alike}
 use Rattle.model_value.proofs.Turns.{numbers_more, numbers_none}
 
@@ -25,14 +27,16 @@ pub one_run : (ws : List Stmt) (i : ℕ) (w : Stmt) (before after end : Env) →
 one_run ws i w before after end inside is alike so_far =
     let one : i + 1 ≡ suc i = omega arith in
     let there : drop i ws ≡ w ∷ drop (suc i) ws = front_of ws i w inside ∙ ap (λ h. h ∷ drop (suc i) ws) (sym is) in
-    rw one (λ y. block_alike (drop (suc i) ws) after (run w before) alike y ∙ (λ j. value_of (in_turn (map run (sym there j)) before) y) ∙ so_far y)
+    rw one (λ y. block_alike (drop (suc i) ws) after (run w before) alike y
+    ∙ (λ j. value_of (in_turn (map run (sym there j)) before) y) ∙ so_far y)
 
 -- what is handed back restores the names
 handed_restores : (back : List Name) (kept : List (Option Arg)) (outer inner end after : Env) → kept ≡ map (value_of outer) back
     → SameValues inner end
     → ((y : Name) → value_of after y ≡ handed_back back kept (value_of inner) y) → Restores back outer end after
 handed_restores back kept outer inner end after are alike gives =
-    restores_alike back outer inner end after alike (λ y. gives y ∙ (λ j. handed_back back (are j) (value_of inner) y) ∙ all_handed_back back outer (value_of inner) y)
+    restores_alike back outer inner end after alike
+    (λ y. gives y ∙ (λ j. handed_back back (are j) (value_of inner) y) ∙ all_handed_back back outer (value_of inner) y)
 
 pub block_back : (xs : List Name) (ws : List Stmt) (back again : List Name) (kept : List (Option Arg)) (env inner after : Env)
     → back ≡ come_back xs ws → again ≡ come_back xs ws
@@ -41,7 +45,8 @@ pub block_back : (xs : List Name) (ws : List Stmt) (back again : List Name) (kep
     → SameValues after (carry xs (in_turn (map run ws) env) env)
 block_back xs ws back again kept env inner after is of are alike gives =
     let restores : Restores (come_back xs ws) env (in_turn (map run ws) env) after =
-    handed_restores (come_back xs ws) kept env inner (in_turn (map run ws) env) after (are ∙ ap (map (value_of env)) is) alike (λ y. gives y ∙ (λ j. handed_back (of j) kept (value_of inner) y)) in
+    handed_restores (come_back xs ws) kept env inner (in_turn (map run ws) env) after (are ∙ ap (map (value_of env)) is) alike
+    (λ y. gives y ∙ (λ j. handed_back (of j) kept (value_of inner) y)) in
     λ y. restores y ∙ sym (block_carries xs ws env y)
 
 pub turn_back : (x : Name) (i : ℕ) (ws : List Stmt) (back : List Name) (kept : List (Option Arg)) (env start inner after : Env)
@@ -50,7 +55,8 @@ pub turn_back : (x : Name) (i : ℕ) (ws : List Stmt) (back : List Name) (kept :
     → ((y : Name) → value_of after y ≡ handed_back back kept (value_of inner) y)
     → Restores back env (in_turn (map run ws) (put x (Word i) env)) after
 turn_back x i ws back kept env start inner after are begins alike gives =
-    handed_restores back kept env inner (in_turn (map run ws) (put x (Word i) env)) after are (λ y. alike y ∙ (λ j. value_of (in_turn (map run ws) (begins j)) y)) gives
+    handed_restores back kept env inner (in_turn (map run ws) (put x (Word i) env)) after are
+    (λ y. alike y ∙ (λ j. value_of (in_turn (map run ws) (begins j)) y)) gives
 
 -- Turns of a loop.
 
@@ -98,7 +104,8 @@ module _ (x : Name) (xs : List Name) (ws : List Stmt) (high : ℕ) (outer final 
   last_turn i names again kept env after over is of are mid gives = λ y. by y (listed y hidden) refl
     where
       restores : Restores hidden outer env after
-      restores = handed_restores hidden kept outer env env after (are ∙ ap (map (value_of outer)) is) (λ y. refl) (λ y. gives y ∙ (λ j. handed_back (of j) kept (value_of env) y))
+      restores = handed_restores hidden kept outer env env after (are ∙ ap (map (value_of outer)) is) (λ y. refl)
+          (λ y. gives y ∙ (λ j. handed_back (of j) kept (value_of env) y))
 
       at_end : (y : Name) → value_of mid.state y ≡ value_of final y
       at_end y = (λ j. value_of (folded turn (sym (numbers_none i high over) j) mid.state) y) ∙ mid.leads y

@@ -11,6 +11,7 @@ use Rattle.model_syntax.specs.Value.{value}
 use Rattle.model_syntax.specs.declared.program.Model.{Model}
 use Rattle.model_syntax.proofs.laws.Models.{value_sound}
 
-pub answer_sound : (m : Model) (args : List Arg) (found : Result (List Arg) Fail) → Well m → model_formed m ≡ true → Spellable m → Answers found (value m args) → IfOk found (λ results. IsSound m args results)
+pub answer_sound : (m : Model) (args : List Arg) (found : Result (List Arg) Fail) → Well m → model_formed m ≡ true → Spellable m
+    → Answers found (value m args) → IfOk found (λ results. IsSound m args results)
 answer_sound m args (Ok results) well formed spelled is = value_sound m args results well formed spelled is
 answer_sound m args (Err fail) well formed spelled is = tt

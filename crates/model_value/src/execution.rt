@@ -86,7 +86,8 @@ fn run_loop(
     names: &[Name],
     body: &[Stmt],
 ) -> Result<(), NoMemory>
-    ensures { OnOk result (SameValues env.new (spec.folded (spec.loop_turn x.now names.now (map spec.run body.now)) (spec.numbers low high) env.old)) }
+    ensures { OnOk result (SameValues env.new
+        (spec.folded (spec.loop_turn x.now names.now (map spec.run body.now)) (spec.numbers low high) env.old)) }
 {
     let hidden = counter(alloc, names, x)?;
     let back = come_back(alloc, names, body)?;
@@ -107,7 +108,8 @@ fn run_turn(
     back: &[Name],
     body: &[Stmt],
 ) -> Result<(), NoMemory>
-    ensures { OnOk result (Restores back.now env.old (spec.in_turn (map spec.run body.now) (put x.now (Arg.Word i) env.old)) env.new) }
+    ensures { OnOk result (Restores back.now env.old (spec.in_turn (map spec.run body.now) (put x.now (Arg.Word i) env.old))
+        env.new) }
 {
     let kept = aside(alloc, back, env)?;
     env.put(alloc, x, Arg::Word(i))?;

@@ -1,6 +1,8 @@
 -- The arguments of a call of an image, as the code below it finds them: numbers in the registers of their places, and
 -- arrays at the pointers there, apart from one another.
-use Rattle.std.proofs.Common.{◌≡◌, ◌≢◌, ◌⊎◌, inl, inr, refl, sym, ◌∙◌, ap, subst, arith, ℕ, zero, suc, ◌+◌, ◌*◌, ◌%◌, ◌≤◌, ◌<◌, ◌^◌, nat_eq, nat_le, Bool, true, false, ◌&&◌, List, [], ◌∷◌, ◌++◌, length, map, take, Option, Some, None, slice_get}
+use Rattle.std.proofs.Common.{◌≡◌, ◌≢◌, ◌⊎◌, inl, inr, refl, sym, ◌∙◌, ap, subst, arith, ℕ, zero, suc, ◌+◌, ◌*◌, ◌%◌, ◌≤◌, ◌<◌}
+use Rattle.std.proofs.Common.{◌^◌, nat_eq, nat_le, Bool, true, false, ◌&&◌, List, [], ◌∷◌, ◌++◌, length, map, take, Option, Some}
+use Rattle.std.proofs.Common.{None, slice_get}
 use Rattle.std.specs.Prelude.{sum_by, slice_index_or}
 use Rattle.std.specs.List.{AllByRecursion}
 use Rattle.std.proofs.lemmas.Bool.{leb-true, eqb-true}
@@ -51,14 +53,16 @@ same_bytes (arg.Word n) = refl
 same_bytes (arg.Bytes ns) = refl
 same_bytes (arg.Words ns) = refl
 
-pub same_size : (vs : List Arg) (k : ℕ) → length (fits.array_bytes (slice_get vs k)) ≡ length (ready.array_bytes (slice_index_or vs k (arg.Word 0)))
+pub same_size : (vs : List Arg) (k : ℕ) → length (fits.array_bytes (slice_get vs k))
+    ≡ length (ready.array_bytes (slice_index_or vs k (arg.Word 0)))
 same_size [] k = refl
 same_size (v ∷ vs) zero = ap length (same_bytes v)
 same_size (v ∷ vs) (suc k) = same_size vs k
 
 -- The numbers of the entry symbols.
 
-first_numbers : (q : Param) (v : Arg) (qs : List Param) (vs : List Arg) → value.fits q v ≡ true → entry_numbers (q ∷ qs) (v ∷ vs) ≡ symbols_of (kind_of q) v ++ entry_numbers qs vs
+first_numbers : (q : Param) (v : Arg) (qs : List Param) (vs : List Arg) → value.fits q v ≡ true
+    → entry_numbers (q ∷ qs) (v ∷ vs) ≡ symbols_of (kind_of q) v ++ entry_numbers qs vs
 first_numbers (param.Word x) (arg.Word n) qs vs fit = refl
 first_numbers (param.Byte x) (arg.Word n) qs vs fit = refl
 first_numbers (param.Bytes a (Fixed n)) (arg.Bytes ns) qs vs fit = refl
@@ -82,7 +86,8 @@ pub numbers_are : (qs : List Param) (vs : List Arg) → AllFit qs vs → entry_n
 numbers_are [] [] all = refl
 numbers_are [] (v ∷ vs) all = absurd all
 numbers_are (q ∷ qs) [] all = absurd all
-numbers_are (q ∷ qs) (v ∷ vs) all = first_numbers q v qs vs all.0 ∙ ap (λ (ns : List ℕ). symbols_of (kind_of q) v ++ ns) (numbers_are qs vs all.1)
+numbers_are (q ∷ qs) (v ∷ vs) all = first_numbers q v qs vs all.0
+    ∙ ap (λ (ns : List ℕ). symbols_of (kind_of q) v ++ ns) (numbers_are qs vs all.1)
 
 -- One argument, whose first register is 10 + l.
 
@@ -95,7 +100,8 @@ module _ (s : State) where
   own (param.Words a n) v r = array_range r v s ∷ []
 
   ranges_step : (q : Param) (qs : List Param) (v : Arg) (vs : List Arg) (r : ℕ)
-      → ready.array_ranges (map kind_of (q ∷ qs)) (v ∷ vs) r s ≡ own q v r ++ ready.array_ranges (map kind_of qs) vs (r + registers_of (kind_of q)) s
+      → ready.array_ranges (map kind_of (q ∷ qs)) (v ∷ vs) r s
+      ≡ own q v r ++ ready.array_ranges (map kind_of qs) vs (r + registers_of (kind_of q)) s
   ranges_step (param.Word x) qs v vs r = refl
   ranges_step (param.Byte x) qs v vs r = refl
   ranges_step (param.Bytes a (Fixed n)) qs v vs r = refl
@@ -107,12 +113,16 @@ module _ (s : State) where
   next_register q l = omega (arith, same_registers q)
 
   next_ranges : (q : Param) (qs : List Param) (v : Arg) (vs : List Arg) (l : ℕ)
-      → ready.array_ranges (map kind_of (q ∷ qs)) (v ∷ vs) (10 + l) s ≡ own q v (10 + l) ++ ready.array_ranges (map kind_of qs) vs (10 + (l + start.registers_of q)) s
-  next_ranges q qs v vs l = ranges_step q qs v vs (10 + l) ∙ ap (λ (r : ℕ). own q v (10 + l) ++ ready.array_ranges (map kind_of qs) vs r s) (next_register q l)
+      → ready.array_ranges (map kind_of (q ∷ qs)) (v ∷ vs) (10 + l) s
+      ≡ own q v (10 + l) ++ ready.array_ranges (map kind_of qs) vs (10 + (l + start.registers_of q)) s
+  next_ranges q qs v vs l = ranges_step q qs v vs (10 + l)
+      ∙ ap (λ (r : ℕ). own q v (10 + l) ++ ready.array_ranges (map kind_of qs) vs r s) (next_register q l)
 
   array_has : (size : ℕ) (len : Len) (v : Arg) (at l : ℕ) → IsArray size (Some v) → at ≡ register s.regs (10 + l)
-      → HasLength len (length (elements (Some v))) (l + 1) (argument_registers s) → Stands s.mem (register s.regs (10 + l)) (ready.array_bytes v)
-      → length (elements (Some v)) ≤ 4294967295 → at % size ≡ 0 → IsMapped s.mem (array_range (10 + l) v s) → HasArray size len v at l s.mem (argument_registers s)
+      → HasLength len (length (elements (Some v))) (l + 1) (argument_registers s)
+      → Stands s.mem (register s.regs (10 + l)) (ready.array_bytes v)
+      → length (elements (Some v)) ≤ 4294967295 → at % size ≡ 0 → IsMapped s.mem (array_range (10 + l) v s)
+      → HasArray size len v at l s.mem (argument_registers s)
   array_has size len v at l array at_is has_length stands few aligned mapped =
       record {
         array = array;
@@ -134,26 +144,32 @@ module _ (s : State) where
   one_aligned at = omega arith
 
   -- an argument of its kind is in its registers
-  first_argument : (q : Param) (v : Arg) (at l : ℕ) → param_formed q ≡ true → value.fits q v ≡ true → ready.HasArgument (kind_of q) v (10 + l) s
-      → AllByRecursion (IsMapped s.mem) (own q v (10 + l)) → at ≡ register s.regs (10 + l) → HasArgument q v at l s.mem (argument_registers s)
+  first_argument : (q : Param) (v : Arg) (at l : ℕ) → param_formed q ≡ true → value.fits q v ≡ true
+      → ready.HasArgument (kind_of q) v (10 + l) s
+      → AllByRecursion (IsMapped s.mem) (own q v (10 + l)) → at ≡ register s.regs (10 + l)
+      → HasArgument q v at l s.mem (argument_registers s)
   first_argument (param.Word x) (arg.Word n) at l formed fit has mapped at_is = (ap Some has, leb-true n 4294967295 fit)
   first_argument (param.Byte x) (arg.Word n) at l formed fit has mapped at_is = (ap Some has, leb-true n 255 fit)
   first_argument (param.Bytes a (Fixed k)) (arg.Bytes ns) at l formed fit has mapped at_is =
       let parts = both_true (nat_eq k (length ns)) (all_true (map is_byte ns)) fit in
       let few = word_is k (both_true (is_name a) (is_word k) formed).1 in
       let long = fixed_length k (length ns) parts.0 in
-      array_has 1 (Fixed k) (arg.Bytes ns) at l (refl, parts.1) at_is long has.0 (omega (arith, few, long)) (one_aligned at) mapped.0
+      array_has 1 (Fixed k) (arg.Bytes ns) at l (refl, parts.1) at_is long has.0 (omega (arith, few, long)) (one_aligned at)
+      mapped.0
   first_argument (param.Bytes a (Named x)) (arg.Bytes ns) at l formed fit has mapped at_is =
       let parts = both_true (is_word (length ns)) (all_true (map is_byte ns)) fit in
-      array_has 1 (Named x) (arg.Bytes ns) at l (refl, parts.1) at_is (named_length l (length ns) has.1) has.0 (word_is (length ns) parts.0) (one_aligned at) mapped.0
+      array_has 1 (Named x) (arg.Bytes ns) at l (refl, parts.1) at_is (named_length l (length ns) has.1) has.0
+      (word_is (length ns) parts.0) (one_aligned at) mapped.0
   first_argument (param.Words a (Fixed k)) (arg.Words ns) at l formed fit has mapped at_is =
       let parts = both_true (nat_eq k (length ns)) (all_true (map is_word ns)) fit in
       let few = word_is k (both_true (is_name a) (is_word k) formed).1 in
       let long = fixed_length k (length ns) parts.0 in
-      array_has 4 (Fixed k) (arg.Words ns) at l (refl, parts.1) at_is long has.0 (omega (arith, few, long)) (omega (arith, at_is, has.1)) mapped.0
+      array_has 4 (Fixed k) (arg.Words ns) at l (refl, parts.1) at_is long has.0 (omega (arith, few, long))
+      (omega (arith, at_is, has.1)) mapped.0
   first_argument (param.Words a (Named x)) (arg.Words ns) at l formed fit has mapped at_is =
       let parts = both_true (is_word (length ns)) (all_true (map is_word ns)) fit in
-      array_has 4 (Named x) (arg.Words ns) at l (refl, parts.1) at_is (named_length l (length ns) has.2) has.0 (word_is (length ns) parts.0) (omega (arith, at_is, has.1)) mapped.0
+      array_has 4 (Named x) (arg.Words ns) at l (refl, parts.1) at_is (named_length l (length ns) has.2) has.0
+      (word_is (length ns) parts.0) (omega (arith, at_is, has.1)) mapped.0
   first_argument (param.Word x) (arg.Bytes ns) at l formed fit has mapped at_is = absurd has
   first_argument (param.Word x) (arg.Words ns) at l formed fit has mapped at_is = absurd has
   first_argument (param.Byte x) (arg.Bytes ns) at l formed fit has mapped at_is = absurd has
@@ -181,16 +197,20 @@ module _ (s : State) where
       let at : 10 + l + 0 ≡ 10 + l = omega arith in
       ap pointers (sym here) ∙ points 0 ∙ ap (register s.regs) at
 
-  place_step : (l : ℕ) (q : Param) (qs : List Param) (k : ℕ) → place_from l (q ∷ qs) (suc k) ≡ place_from (l + start.registers_of q) qs k
+  place_step : (l : ℕ) (q : Param) (qs : List Param) (k : ℕ)
+      → place_from l (q ∷ qs) (suc k) ≡ place_from (l + start.registers_of q) qs k
   place_step l q qs k = omega (arith, sum_by-cons registers_of (kind_of q) (take k (map kind_of qs)), next_register q l)
 
-  next_places : (p l : ℕ) (q : Param) (qs : List Param) (pointers : ℕ → ℕ) → Points p l (q ∷ qs) pointers → Points (p + 1) (l + start.registers_of q) qs pointers
+  next_places : (p l : ℕ) (q : Param) (qs : List Param) (pointers : ℕ → ℕ) → Points p l (q ∷ qs) pointers
+      → Points (p + 1) (l + start.registers_of q) qs pointers
   next_places p l q qs pointers points k =
       let here : p + 1 + k ≡ p + suc k = omega arith in
       ap pointers here ∙ points (suc k) ∙ ap (register s.regs) (place_step l q qs k)
 
-  pub has_arguments : (p l : ℕ) (qs : List Param) (vs : List Arg) (pointers : ℕ → ℕ) → all_true (map param_formed qs) ≡ true → AllFit qs vs
-      → ready.HasArguments (map kind_of qs) vs (10 + l) s → AllByRecursion (IsMapped s.mem) (ready.array_ranges (map kind_of qs) vs (10 + l) s)
+  pub has_arguments : (p l : ℕ) (qs : List Param) (vs : List Arg) (pointers : ℕ → ℕ) → all_true (map param_formed qs) ≡ true
+      → AllFit qs vs
+      → ready.HasArguments (map kind_of qs) vs (10 + l) s
+      → AllByRecursion (IsMapped s.mem) (ready.array_ranges (map kind_of qs) vs (10 + l) s)
       → Points p l qs pointers → HasArguments p l qs vs pointers s.mem (argument_registers s)
   has_arguments p l [] [] pointers formed fit has mapped points = tt
   has_arguments p l [] (v ∷ vs) pointers formed fit has mapped points = absurd fit
@@ -199,13 +219,16 @@ module _ (s : State) where
       let parts = both_true (param_formed q) (all_true (map param_formed qs)) formed in
       let split = subst (λ (rs : List Range). AllByRecursion (IsMapped s.mem) rs) (next_ranges q qs v vs l) mapped in
       let rest = subst (λ (r : ℕ). ready.HasArguments (map kind_of qs) vs r s) (next_register q l) has.1 in (
-        first_argument q v (pointers p) l parts.0 fit.0 has.0 (all_first (IsMapped s.mem) (own q v (10 + l)) _ split) (first_place p l (q ∷ qs) pointers points),
-        has_arguments (p + 1) (l + start.registers_of q) qs vs pointers parts.1 fit.1 rest (all_rest (IsMapped s.mem) (own q v (10 + l)) _ split) (next_places p l q qs pointers points),
+        first_argument q v (pointers p) l parts.0 fit.0 has.0 (all_first (IsMapped s.mem) (own q v (10 + l)) _ split)
+            (first_place p l (q ∷ qs) pointers points),
+        has_arguments (p + 1) (l + start.registers_of q) qs vs pointers parts.1 fit.1 rest
+            (all_rest (IsMapped s.mem) (own q v (10 + l)) _ split) (next_places p l q qs pointers points),
       )
 
   -- The ranges of the arrays.
 
-  range_is : (v : Arg) (at r : ℕ) → at ≡ register s.regs r → ◌≡◌ {A = Range} (record { start = at; size = length (fits.array_bytes (Some v)) }) (array_range r v s)
+  range_is : (v : Arg) (at r : ℕ) → at ≡ register s.regs r
+      → ◌≡◌ {A = Range} (record { start = at; size = length (fits.array_bytes (Some v)) }) (array_range r v s)
   range_is v at r is = rw (is, same_bytes v) refl
 
   pub ranges_are : (p l : ℕ) (qs : List Param) (vs : List Arg) (pointers : ℕ → ℕ) → AllFit qs vs → Points p l qs pointers
@@ -214,11 +237,17 @@ module _ (s : State) where
   ranges_are p l [] (v ∷ vs) pointers fit points = absurd fit
   ranges_are p l (q ∷ qs) [] pointers fit points = absurd fit
   ranges_are p l (q ∷ qs) (v ∷ vs) pointers fit points =
-      by q (ready.array_ranges (map kind_of qs) vs (10 + (l + start.registers_of q)) s) (first_place p l (q ∷ qs) pointers points) (ranges_are (p + 1) (l + start.registers_of q) qs vs pointers fit.1 (next_places p l q qs pointers points)) ∙ sym (next_ranges q qs v vs l)
+      by q (ready.array_ranges (map kind_of qs) vs (10 + (l + start.registers_of q)) s) (first_place p l (q ∷ qs) pointers points)
+      (ranges_are (p + 1) (l + start.registers_of q) qs vs pointers fit.1 (next_places p l q qs pointers points))
+      ∙ sym (next_ranges q qs v vs l)
     where
       by : (z : Param) (rest : List Range) → pointers p ≡ register s.regs (10 + l) → array_ranges (p + 1) qs vs pointers ≡ rest
           → array_ranges p (z ∷ qs) (v ∷ vs) pointers ≡ own z v (10 + l) ++ rest
       by (param.Word x) rest at more = more
       by (param.Byte x) rest at more = more
-      by (param.Bytes a n) rest at more = ap (λ (rs : List Range). record { start = pointers p; size = length (fits.array_bytes (Some v)) } ∷ rs) more ∙ ap (λ (r : Range). r ∷ rest) (range_is v (pointers p) (10 + l) at)
-      by (param.Words a n) rest at more = ap (λ (rs : List Range). record { start = pointers p; size = length (fits.array_bytes (Some v)) } ∷ rs) more ∙ ap (λ (r : Range). r ∷ rest) (range_is v (pointers p) (10 + l) at)
+      by (param.Bytes a n) rest at more =
+          ap (λ (rs : List Range). record { start = pointers p; size = length (fits.array_bytes (Some v)) } ∷ rs) more
+          ∙ ap (λ (r : Range). r ∷ rest) (range_is v (pointers p) (10 + l) at)
+      by (param.Words a n) rest at more =
+          ap (λ (rs : List Range). record { start = pointers p; size = length (fits.array_bytes (Some v)) } ∷ rs) more
+          ∙ ap (λ (r : Range). r ∷ rest) (range_is v (pointers p) (10 + l) at)

@@ -1,5 +1,7 @@
 -- A call of the image of a model: its code serves it.
-use Rattle.std.proofs.Common.{◌≡◌, ◌≢◌, ◌⊎◌, inl, inr, refl, sym, ◌∙◌, ap, subst, arith, ℕ, zero, suc, ◌+◌, ◌*◌, ◌<◌, ◌≤◌, true, List, [], ◌∷◌, ◌++◌, map, take, length, Option, Some, None, Ok, Err, Result, slice_get, length-append}
+use Rattle.std.proofs.Common.{◌≡◌, ◌≢◌, ◌⊎◌, inl, inr, refl, sym, ◌∙◌, ap, subst, arith, ℕ, zero, suc, ◌+◌, ◌*◌, ◌<◌, ◌≤◌, true}
+use Rattle.std.proofs.Common.{List, [], ◌∷◌, ◌++◌, map, take, length, Option, Some, None, Ok, Err, Result, slice_get}
+use Rattle.std.proofs.Common.{length-append}
 use Rattle.std.specs.Prelude.{IfOk, sum_by, slice_index_or}
 use Rattle.rup_base.specs.declared.arg.Kind.{Kind}
 use Rattle.rup_base.specs.declared.arg.Arg.{Arg}
@@ -72,8 +74,10 @@ numbers_rise : (n : ℕ) → Rising 0 (numbers n)
 numbers_rise zero = tt
 numbers_rise (suc n) = rising_last 0 (numbers n) n (numbers_rise n) (omega (arith, count_numbers n))
 
-module _ (ps : List Param) (pointers : ℕ → ℕ) (s u : State) (points : (k : ℕ) → pointers k ≡ register s.regs (register_of (map kind_of ps) k)) where
-  results_held : (rs : List Ret) (vs : List Arg) (ls : List ℕ) (l : ℕ) → Rising l ls → HoldsResults ps pointers rs vs ls u.mem (argument_registers u)
+module _ (ps : List Param) (pointers : ℕ → ℕ) (s u : State)
+    (points : (k : ℕ) → pointers k ≡ register s.regs (register_of (map kind_of ps) k)) where
+  results_held : (rs : List Ret) (vs : List Arg) (ls : List ℕ) (l : ℕ) → Rising l ls
+      → HoldsResults ps pointers rs vs ls u.mem (argument_registers u)
       → HasResults (map kind_of ps) (map (result_place ps) rs) vs (10 + l) s u
   results_held [] [] [] l rise holds = tt
   results_held [] [] (k ∷ ks) l rise holds = absurd holds
@@ -84,38 +88,47 @@ module _ (ps : List Param) (pointers : ℕ → ℕ) (s u : State) (points : (k :
       let here : register u.regs (10 + k) ≡ n = (let both : Some (register u.regs (10 + k)) ≡ Some n = holds.0 in cc) in
       let next : 10 + (l + 1) ≡ 10 + l + 1 = omega arith in (
         ap (λ (j : ℕ). register u.regs (10 + j)) (sym rise.0) ∙ here,
-        subst (λ (r : ℕ). HasResults (map kind_of ps) (map (result_place ps) rs) vs r s u) next (results_held rs vs ks (l + 1) rise.1 holds.1),
+        subst (λ (r : ℕ). HasResults (map kind_of ps) (map (result_place ps) rs) vs r s u) next
+            (results_held rs vs ks (l + 1) rise.1 holds.1),
       )
   results_held (ret.Scalar x ∷ rs) (arg.Bytes ns ∷ vs) ls l rise holds = absurd holds
   results_held (ret.Scalar x ∷ rs) (arg.Words ns ∷ vs) ls l rise holds = absurd holds
   results_held (ret.Array a p ∷ rs) [] ls l rise holds = absurd holds
   results_held (ret.Array a p ∷ rs) (v ∷ vs) ls l rise holds = (
-    subst (λ (bytes : List ℕ). Stands u.mem (register s.regs (register_of (map kind_of ps) (number_among p (map param_name ps)))) bytes) (same_bytes v)
+    subst (λ (bytes : List ℕ). Stands u.mem (register s.regs (register_of (map kind_of ps) (number_among p (map param_name ps))))
+        bytes) (same_bytes v)
         (subst (λ (at : ℕ). Stands u.mem at (fits.array_bytes (Some v))) (points (number_among p (map param_name ps))) holds.0),
     results_held rs vs ls l rise holds.1,
   )
 
 -- a returned array lies where its argument did
-still_returned : (m : Model) (args : List Arg) (pointers : ℕ → ℕ) (s : State) → ((k : ℕ) → pointers k ≡ register s.regs (register_of (map kind_of m.params) k))
-    → (rs : List Ret) (address : ℕ) → InReturned m.params (call_of m args pointers) rs address → Returned (map kind_of m.params) (map (result_place m.params) rs) args s address
+still_returned : (m : Model) (args : List Arg) (pointers : ℕ → ℕ) (s : State)
+    → ((k : ℕ) → pointers k ≡ register s.regs (register_of (map kind_of m.params) k))
+    → (rs : List Ret) (address : ℕ) → InReturned m.params (call_of m args pointers) rs address
+    → Returned (map kind_of m.params) (map (result_place m.params) rs) args s address
 still_returned m args pointers s points [] address inside = absurd inside
-still_returned m args pointers s points (ret.Scalar x ∷ rs) address inside = still_returned m args pointers s points rs address inside
-still_returned m args pointers s points (ret.Array a p ∷ rs) address inside = by inside (λ more. still_returned m args pointers s points rs address more) where
-  k : ℕ
-  k = number_among p (map param_name m.params)
+still_returned m args pointers s points (ret.Scalar x ∷ rs) address inside =
+    still_returned m args pointers s points rs address inside
+still_returned m args pointers s points (ret.Array a p ∷ rs) address inside =
+    by inside (λ more. still_returned m args pointers s points rs address more) where
+      k : ℕ
+      k = number_among p (map param_name m.params)
 
-  by : Within (range_of (call_of m args pointers) k) address ⊎ InReturned m.params (call_of m args pointers) rs address
-      → (InReturned m.params (call_of m args pointers) rs address → Returned (map kind_of m.params) (map (result_place m.params) rs) args s address)
-      → Within (array_range (register_of (map kind_of m.params) k) (slice_index_or args k (arg.Word 0)) s) address ⊎ Returned (map kind_of m.params) (map (result_place m.params) rs) args s address
-  by (inl here) rest =
-      let from = here.0 in
-      let to = here.1 in
-      let start_is = points k in
-      let size_is = same_size args k in
-      inl (omega (arith, from, start_is), omega (arith, to, start_is, size_is))
-  by (inr more) rest = inr (rest more)
+      by : Within (range_of (call_of m args pointers) k) address ⊎ InReturned m.params (call_of m args pointers) rs address
+          → (InReturned m.params (call_of m args pointers) rs address
+          → Returned (map kind_of m.params) (map (result_place m.params) rs) args s address)
+          → Within (array_range (register_of (map kind_of m.params) k) (slice_index_or args k (arg.Word 0)) s) address
+          ⊎ Returned (map kind_of m.params) (map (result_place m.params) rs) args s address
+      by (inl here) rest =
+          let from = here.0 in
+          let to = here.1 in
+          let start_is = points k in
+          let size_is = same_size args k in
+          inl (omega (arith, from, start_is), omega (arith, to, start_is, size_is))
+      by (inr more) rest = inr (rest more)
 
-module _ (m : Model) (c : ModelCommand) (words tables : List ℕ) (stack : ℕ) (well : types.Well m) (formed : model_formed m ≡ true) (serves : Serves m c words tables stack) where
+module _ (m : Model) (c : ModelCommand) (words tables : List ℕ) (stack : ℕ) (well : types.Well m) (formed : model_formed m ≡ true)
+    (serves : Serves m c words tables stack) where
   abbrev i : Image
   i = image_around m c.bound stack (bytes_of words) tables
 
@@ -129,25 +142,30 @@ module _ (m : Model) (c : ModelCommand) (words tables : List ℕ) (stack : ℕ) 
   abbrev pointers : State → ℕ → ℕ
   pointers s p = register s.regs (register_of (map kind_of m.params) p)
 
-  points : (s : State) (k : ℕ) → pointers s (0 + k) ≡ register s.regs (10 + 0 + sum_by registers_of (take k (map kind_of m.params)))
+  points : (s : State) (k : ℕ) → pointers s (0 + k)
+      ≡ register s.regs (10 + 0 + sum_by registers_of (take k (map kind_of m.params)))
   points s k =
       let number : 0 + k ≡ k = omega arith in
-      let place : 10 + sum_by registers_of (take k (map kind_of m.params)) ≡ 10 + 0 + sum_by registers_of (take k (map kind_of m.params)) = omega arith in
+      let place : 10 + sum_by registers_of (take k (map kind_of m.params))
+      ≡ 10 + 0 + sum_by registers_of (take k (map kind_of m.params)) = omega arith in
       ap (pointers s) number ∙ ap (register s.regs) place
 
-  arrays : (args : List Arg) (s : State) → AllFit m.params args → array_ranges 0 m.params args (pointers s) ≡ ready.array_ranges i.params args 10 s
+  arrays : (args : List Arg) (s : State) → AllFit m.params args → array_ranges 0 m.params args (pointers s)
+      ≡ ready.array_ranges i.params args 10 s
   arrays args s fit = ranges_are s 0 0 m.params args (pointers s) fit (points s)
 
   ready_code : (args : List Arg) (base : ℕ) (s : State) → Ready m i args base s
       → code.Ready words tables stack (image_range i base) (base + i.entry) (array_ranges 0 m.params args (pointers s)) s
   ready_code args base s ready =
-      subst (λ (rs : List Range). code.Ready words tables stack (image_range i base) (base + i.entry) rs s) (sym (arrays args s (fitting m args ready.meets)))
+      subst (λ (rs : List Range). code.Ready words tables stack (image_range i base) (base + i.entry) rs s)
+      (sym (arrays args s (fitting m args ready.meets)))
       (record {
         machine = ready.machine;
         aligned = omega (arith, ready.base_aligned, entry_whole m c.bound stack (bytes_of words) tables);
         from = omega arith;
         to = omega (arith, code_ends, entry);
-        code_stands = subst (λ (k : ℕ). Stands s.mem (base + k) (bytes_of words ++ tables)) entry (code_stands s.mem base i ready.image_stands);
+        code_stands = subst (λ (k : ℕ). Stands s.mem (base + k) (bytes_of words ++ tables)) entry
+            (code_stands s.mem base i ready.image_stands);
         starts = ready.starts;
         stack_aligned = ready.stack_aligned;
         stack_fits = ready.stack_fits;
@@ -157,27 +175,39 @@ module _ (m : Model) (c : ModelCommand) (words tables : List ℕ) (stack : ℕ) 
         return_outside = ready.return_outside;
       })
 
-  gives_of : (args : List Arg) (base : ℕ) (s : State) → Ready m i args base s → Gives m c args (pointers s) words stack (base + i.entry) s
+  gives_of : (args : List Arg) (base : ℕ) (s : State) → Ready m i args base s
+      → Gives m c args (pointers s) words stack (base + i.entry) s
   gives_of args base s ready =
       let fit = fitting m args ready.meets in
-      let has = has_arguments s 0 0 m.params args (pointers s) (params_formed m formed) fit ready.arguments ready.mapped.1.1 (points s) in
+      let has = has_arguments s 0 0 m.params args (pointers s) (params_formed m formed) fit ready.arguments ready.mapped.1.1
+      (points s) in
       serves args (pointers s) (image_range i base) (base + i.entry) s ready.meets has (ready_code args base s ready)
 
-  has_results : (args : List Arg) (base : ℕ) (s : State) → Meets m args → (gives : Gives m c args (pointers s) words stack (base + i.entry) s)
+  has_results : (args : List Arg) (base : ℕ) (s : State) → Meets m args
+      → (gives : Gives m c args (pointers s) words stack (base + i.entry) s)
       → IfOk (value.value m args) (λ rs. HasResults i.params i.rets rs 10 s gives.end)
   has_results args base s meets gives =
       let has : HasResults i.params i.rets (results m args) 10 s gives.end =
-      results_held m.params (pointers s) s gives.end (λ k. refl) m.rets (results m args) (numbers (scalar_results m.rets)) 0 (numbers_rise (scalar_results m.rets)) gives.has_results
+      results_held m.params (pointers s) s gives.end (λ k. refl) m.rets (results m args) (numbers (scalar_results m.rets)) 0
+      (numbers_rise (scalar_results m.rets)) gives.has_results
       in
       subst (λ r. IfOk r (λ rs. HasResults i.params i.rets rs 10 s gives.end)) (sym (value_is m args meets)) has
 
-  under_way : (args : List Arg) (base : ℕ) (s : State) → Ready m i args base s → (gives : Gives m c args (pointers s) words stack (base + i.entry) s)
+  under_way : (args : List Arg) (base : ℕ) (s : State) → Ready m i args base s
+      → (gives : Gives m c args (pointers s) words stack (base + i.entry) s)
       → (j : ℕ) → j < gives.steps → IsUnderWay i base s j
   under_way args base s ready gives j before =
       let at_j = gives.before j before in
-      let size : length (bytes_of words ++ tables) ≡ 4 * length words + length tables = length-append (bytes_of words) tables ∙ ap (λ (k : ℕ). k + length tables) (code_length words) in
-      let inside : Within (image_range i base) at_j.state.pc = (omega (arith, at_j.from), omega (arith, at_j.to, entry, size, code_ends)) in
-      record { state = at_j.state; ran = at_j.ran; in_image = inside; not_back = λ back. ready.return_outside (subst (λ (pc : ℕ). Within (image_range i base) pc) back inside) }
+      let size : length (bytes_of words ++ tables) ≡ 4 * length words + length tables = length-append (bytes_of words) tables
+      ∙ ap (λ (k : ℕ). k + length tables) (code_length words) in
+      let inside : Within (image_range i base) at_j.state.pc =
+      (omega (arith, at_j.from), omega (arith, at_j.to, entry, size, code_ends)) in
+      record {
+        state = at_j.state;
+        ran = at_j.ran;
+        in_image = inside;
+        not_back = λ back. ready.return_outside (subst (λ (pc : ℕ). Within (image_range i base) pc) back inside);
+      }
 
   returns : (args : List Arg) (base : ℕ) (s : State) → Ready m i args base s → Returns m i args base s
   returns args base s ready =
@@ -188,11 +218,14 @@ module _ (m : Model) (c : ModelCommand) (words tables : List ℕ) (stack : ℕ) 
         ran = gives.ran;
         back = gives.back;
         before = under_way args base s ready gives;
-        in_time = subst (λ (ns : List ℕ). gives.steps ≤ at ns c.bound) (numbers_are m.params args (fitting m args ready.meets)) gives.in_time;
+        in_time = subst (λ (ns : List ℕ). gives.steps ≤ at ns c.bound) (numbers_are m.params args (fitting m args ready.meets))
+            gives.in_time;
         has_results = has_results args base s ready.meets gives;
         saved = gives.saved;
         same_addresses = gives.same_addresses;
-        others = λ address outside other. gives.others address outside (λ inside. other (still_returned m args (pointers s) s (λ k. refl) m.rets address inside));
+        others = λ address outside other.
+            gives.others address outside (λ inside.
+            other (still_returned m args (pointers s) s (λ k. refl) m.rets address inside));
       }
 
   pub good : Good m i

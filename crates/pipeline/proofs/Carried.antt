@@ -1,5 +1,6 @@
 -- Arguments and results in one place are there in another too, which has the same.
-use Rattle.std.proofs.Common.{◌≡◌, refl, sym, ◌∙◌, ap, subst, arith, ℕ, zero, suc, ◌+◌, ◌<◌, ◌≤◌, inl, inr, List, [], ◌∷◌, ◌++◌, length, Some, slice_get}
+use Rattle.std.proofs.Common.{◌≡◌, refl, sym, ◌∙◌, ap, subst, arith, ℕ, zero, suc, ◌+◌, ◌<◌, ◌≤◌, inl, inr, List, [], ◌∷◌, ◌++◌}
+use Rattle.std.proofs.Common.{length, Some, slice_get}
 use Rattle.std.proofs.lemmas.Option.{slice_get_within}
 use Rattle.std.specs.FinMap.{get}
 use Rattle.rup_base.specs.declared.arg.Arg.{Arg}
@@ -28,12 +29,14 @@ Has inside before after = (address b : ℕ) → inside address → get before ad
 abbrev pub Same : ℕ → ℕ → Locals → Locals → Type 0
 Same l n before after = (k : ℕ) → l ≤ k → k < l + n → after k ≡ before k
 
-number_carried : (top : ℕ) (v : Arg) (l : ℕ) (before after : Locals) → after l ≡ before l → HasNumber top v l before → HasNumber top v l after
+number_carried : (top : ℕ) (v : Arg) (l : ℕ) (before after : Locals) → after l ≡ before l → HasNumber top v l before
+    → HasNumber top v l after
 number_carried top (arg.Word n) l before after same has = (same ∙ has.0, has.1)
 number_carried top (arg.Bytes ns) l before after same has = absurd has
 number_carried top (arg.Words ns) l before after same has = absurd has
 
-length_carried : (len : Len) (n l : ℕ) (before after : Locals) → Same l (length_registers len) before after → HasLength len n l before → HasLength len n l after
+length_carried : (len : Len) (n l : ℕ) (before after : Locals) → Same l (length_registers len) before after
+    → HasLength len n l before → HasLength len n l after
 length_carried (Fixed k) n l before after same has = has
 length_carried (Named x) n l before after same has = same l (omega arith) (omega arith) ∙ has
 
@@ -45,7 +48,8 @@ array_carried size len v at l mem part before after same there has =
     record {
       array = has.array;
       pointer = same l (omega arith) (omega arith) ∙ has.pointer;
-      has_length = length_carried len _ (l + 1) before after (λ k from to. same k (omega (arith, from)) (omega (arith, to))) has.has_length;
+      has_length = length_carried len _ (l + 1) before after (λ k from to. same k (omega (arith, from)) (omega (arith, to)))
+          has.has_length;
       stands = λ k b is.
           let below : k < length (array_bytes (Some v)) = slice_get_within (array_bytes (Some v)) k b is in
           there (at + k) b (omega arith, omega (arith, below)) (has.stands k b is);
@@ -62,19 +66,23 @@ arguments_carried p l [] (v ∷ vs) pointers mem part before after same there ha
 arguments_carried p l (q ∷ qs) [] pointers mem part before after same there has = absurd has
 arguments_carried p l (param.Word x ∷ qs) (v ∷ vs) pointers mem part before after same there has = (
   number_carried _ v l before after (same l (omega arith) (omega arith)) has.0,
-  arguments_carried (p + 1) (l + 1) qs vs pointers mem part before after (λ k from to. same k (omega (arith, from)) (omega (arith, to))) there has.1,
+  arguments_carried (p + 1) (l + 1) qs vs pointers mem part before after
+      (λ k from to. same k (omega (arith, from)) (omega (arith, to))) there has.1,
 )
 arguments_carried p l (param.Byte x ∷ qs) (v ∷ vs) pointers mem part before after same there has = (
   number_carried _ v l before after (same l (omega arith) (omega arith)) has.0,
-  arguments_carried (p + 1) (l + 1) qs vs pointers mem part before after (λ k from to. same k (omega (arith, from)) (omega (arith, to))) there has.1,
+  arguments_carried (p + 1) (l + 1) qs vs pointers mem part before after
+      (λ k from to. same k (omega (arith, from)) (omega (arith, to))) there has.1,
 )
 arguments_carried p l (param.Bytes a n ∷ qs) (v ∷ vs) pointers mem part before after same there has = (
-  array_carried 1 n v (pointers p) l mem part before after (λ k from to. same k from (omega (arith, to))) (λ address b inside. there address b (inl inside)) has.0,
+  array_carried 1 n v (pointers p) l mem part before after (λ k from to. same k from (omega (arith, to)))
+      (λ address b inside. there address b (inl inside)) has.0,
   arguments_carried (p + 1) (l + (1 + length_registers n)) qs vs pointers mem part before after
       (λ k from to. same k (omega (arith, from)) (omega (arith, to))) (λ address b inside. there address b (inr inside)) has.1,
 )
 arguments_carried p l (param.Words a n ∷ qs) (v ∷ vs) pointers mem part before after same there has = (
-  array_carried 4 n v (pointers p) l mem part before after (λ k from to. same k from (omega (arith, to))) (λ address b inside. there address b (inl inside)) has.0,
+  array_carried 4 n v (pointers p) l mem part before after (λ k from to. same k from (omega (arith, to)))
+      (λ address b inside. there address b (inl inside)) has.0,
   arguments_carried (p + 1) (l + (1 + length_registers n)) qs vs pointers mem part before after
       (λ k from to. same k (omega (arith, from)) (omega (arith, to))) (λ address b inside. there address b (inr inside)) has.1,
 )
@@ -94,7 +102,8 @@ scalar_places k [] = []
 scalar_places k (ret.Scalar x ∷ rs) = k ∷ scalar_places (k + 1) rs
 scalar_places k (ret.Array a p ∷ rs) = scalar_places k rs
 
-carried_from : (ps : List Param) (pointers : ℕ → ℕ) (rs : List Ret) (vs : List Arg) (ls : List ℕ) (k : ℕ) (mem end : Bytes) (before after : Locals)
+carried_from : (ps : List Param) (pointers : ℕ → ℕ) (rs : List Ret) (vs : List Arg) (ls : List ℕ) (k : ℕ) (mem end : Bytes)
+    (before after : Locals)
     → ((address b : ℕ) → get mem address ≡ Some b → get end address ≡ Some b) → Moved k ls before after
     → HoldsResults ps pointers rs vs ls mem before → HoldsResults ps pointers rs vs (scalar_places k rs) end after
 carried_from ps pointers [] [] [] k mem end before after kept moved has = tt
@@ -137,11 +146,13 @@ rising_is (suc n) =
     let e : 0 + n ≡ n = omega arith in
     sym (rising_end 0 n) ∙ ap (λ (j : ℕ). rising 0 n ++ j ∷ []) e ∙ ap (λ (ns : List ℕ). ns ++ n ∷ []) (rising_is n)
 
-pub results_carried : (ps : List Param) (pointers : ℕ → ℕ) (rs : List Ret) (vs : List Arg) (ls : List ℕ) (mem end : Bytes) (before after : Locals)
+pub results_carried : (ps : List Param) (pointers : ℕ → ℕ) (rs : List Ret) (vs : List Arg) (ls : List ℕ) (mem end : Bytes)
+    (before after : Locals)
     → ((address b : ℕ) → get mem address ≡ Some b → get end address ≡ Some b)
     → ((i l n : ℕ) → slice_get ls i ≡ Some l → before l ≡ Some n → after i ≡ Some n)
     → HoldsResults ps pointers rs vs ls mem before → HoldsResults ps pointers rs vs (numbers (scalar_results rs)) end after
 results_carried ps pointers rs vs ls mem end before after kept moved has =
-    let from_zero : Moved 0 ls before after = λ i l n is holds. (let e : 0 + i ≡ i = omega arith in ap after e ∙ moved i l n is holds) in
+    let from_zero : Moved 0 ls before after =
+    λ i l n is holds. (let e : 0 + i ≡ i = omega arith in ap after e ∙ moved i l n is holds) in
     subst (λ (ns : List ℕ). HoldsResults ps pointers rs vs ns end after) (places_rise 0 rs ∙ rising_is (scalar_results rs))
     (carried_from ps pointers rs vs ls 0 mem end before after kept from_zero has)

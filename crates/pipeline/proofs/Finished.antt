@@ -25,14 +25,16 @@ use Rattle.pipeline.proofs.Limits.{code_length, within}
 abbrev pub image_for : Model → ModelCommand → Emitted → Image
 image_for m c e = image_around m c.bound e.stack (bytes_of (map word_of e.code)) e.tables
 
-pub image_within : (w : Weights) (m : Model) (c : ModelCommand) (e : Emitted) (i : Image) → Well m → model_formed m ≡ true → IsMeasured w m c → IsSmall c
+pub image_within : (w : Weights) (m : Model) (c : ModelCommand) (e : Emitted) (i : Image) → Well m → model_formed m ≡ true
+    → IsMeasured w m c → IsSmall c
     → 1 ≤ length e.code → length e.code ≤ c.weight → length e.tables ≤ 131072 → e.stack % 16 ≡ 0 → e.stack ≤ 4096
     → i ≡ image_for m c e → AllByRecursion IsLimited i.requires_ → IsWithinLimits i
 image_within w m c e i well formed measured small some counted short aligned low is limited =
     let size : length (map word_of e.code) ≡ length e.code = length-map e.code word_of in
     let facts = subst (λ (x : Image). AllByRecursion IsLimited x.requires_) is limited in
     subst IsWithinLimits (sym is)
-    (within w m c e.stack (map word_of e.code) e.tables well formed measured small facts (omega (arith, size, some)) (omega (arith, size, counted, small.light)) short aligned low)
+    (within w m c e.stack (map word_of e.code) e.tables well formed measured small facts (omega (arith, size, some))
+    (omega (arith, size, counted, small.light)) short aligned low)
 
 pub written : (m : Model) (c : ModelCommand) (e : Emitted) (i : Image) (bytes : List ℕ) → Well m → model_formed m ≡ true
     → Serves m c (map word_of e.code) e.tables e.stack → length e.code ≤ c.weight → named_in e.code ≡ cmd_names c.command

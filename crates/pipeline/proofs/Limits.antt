@@ -1,5 +1,6 @@
 -- The image around the code of a model is within the limits of its layout.
-use Rattle.std.proofs.Common.{◌≡◌, refl, sym, ◌∙◌, ap, subst, arith, ℕ, ◌+◌, ◌*◌, ◌%◌, ◌≤◌, ◌^◌, Bool, true, false, ◌&&◌, List, [], ◌∷◌, ◌++◌, length, map, Option, Some, None}
+use Rattle.std.proofs.Common.{◌≡◌, refl, sym, ◌∙◌, ap, subst, arith, ℕ, ◌+◌, ◌*◌, ◌%◌, ◌≤◌, ◌^◌, Bool, true, false, ◌&&◌, List}
+use Rattle.std.proofs.Common.{[], ◌∷◌, ◌++◌, length, map, Option, Some, None}
 use Rattle.std.specs.Prelude.{sum_by}
 use Rattle.std.specs.Int.{next_multiple_of}
 use Rattle.std.specs.List.{AllByRecursion, flat_map}
@@ -24,7 +25,8 @@ use Rattle.model_syntax.specs.Types.{kind_of}
 use Rattle.sym_heap.specs.Start as start
 use Rattle.image_layout.specs.declared.image.Image.{Image}
 use Rattle.image_layout.specs.Spelling as layout
-use Rattle.image_layout.specs.Spelling.{parameter, symbol, bound_term, registers_of, symbols_of, symbol_count, lists, header_length, code_offset, IsParameter, IsRequirement, IsWithinLimits}
+use Rattle.image_layout.specs.Spelling.{parameter, symbol, bound_term, registers_of, symbols_of, symbol_count, lists}
+use Rattle.image_layout.specs.Spelling.{header_length, code_offset, IsParameter, IsRequirement, IsWithinLimits}
 use Rattle.image_layout.proofs.laws.Length.{lists_small}
 use Rattle.bed_syntax.specs.declared.weights.Weights.{Weights}
 use Rattle.bed_syntax.specs.declared.weights.TheConstants as weights
@@ -44,7 +46,8 @@ both_true false q is = absurd (let bad : false ≡ true = is in cc)
 pub params_formed : (m : Model) → model_formed m ≡ true → all_true (map param_formed m.params) ≡ true
 params_formed m formed =
     let name = both_true (is_name m.name) _ formed in
-    (both_true (all_true (map param_formed m.params)) (facts_formed m.requires_ && (all_true (map stmt_formed m.body) && all_true (map ret_formed m.rets))) name.1).0
+    (both_true (all_true (map param_formed m.params))
+    (facts_formed m.requires_ && (all_true (map stmt_formed m.body) && all_true (map ret_formed m.rets))) name.1).0
 
 pub word_is : (n : ℕ) → is_word n ≡ true → n ≤ 4294967295
 word_is n is = leb-true n 4294967295 is
@@ -52,9 +55,11 @@ word_is n is = leb-true n 4294967295 is
 param_fits : (q : Param) → param_formed q ≡ true → IsParameter (kind_of q)
 param_fits (param.Word x) formed = tt
 param_fits (param.Byte x) formed = tt
-param_fits (param.Bytes a (Fixed n)) formed = let few = word_is n (both_true (is_name a) (is_word n) formed).1 in omega (arith, few)
+param_fits (param.Bytes a (Fixed n)) formed = let few = word_is n (both_true (is_name a) (is_word n) formed).1 in
+    omega (arith, few)
 param_fits (param.Bytes a (Named x)) formed = tt
-param_fits (param.Words a (Fixed n)) formed = let few = word_is n (both_true (is_name a) (is_word n) formed).1 in omega (arith, few)
+param_fits (param.Words a (Fixed n)) formed = let few = word_is n (both_true (is_name a) (is_word n) formed).1 in
+    omega (arith, few)
 param_fits (param.Words a (Named x)) formed = tt
 
 params_fit : (ps : List Param) → all_true (map param_formed ps) ≡ true → AllByRecursion IsParameter (map kind_of ps)
@@ -98,14 +103,18 @@ whole_words : (k : ℕ) → next_multiple_of k 16 % 4 ≡ 0
 whole_words k = omega arith
 
 -- the image is entered where its code begins
-pub entry_is : (m : Model) (bound : List Term) (stack : ℕ) (code tables : List ℕ) → code_offset (image_around m bound stack code tables) ≡ (image_around m bound stack code tables).entry
+pub entry_is : (m : Model) (bound : List Term) (stack : ℕ) (code tables : List ℕ)
+    → code_offset (image_around m bound stack code tables) ≡ (image_around m bound stack code tables).entry
 entry_is m bound stack code tables = refl
 
-pub entry_whole : (m : Model) (bound : List Term) (stack : ℕ) (code tables : List ℕ) → (image_around m bound stack code tables).entry % 4 ≡ 0
+pub entry_whole : (m : Model) (bound : List Term) (stack : ℕ) (code tables : List ℕ)
+    → (image_around m bound stack code tables).entry % 4 ≡ 0
 entry_whole m bound stack code tables = whole_words (header_length (image_from 0 m bound stack code tables))
 
-pub within : (w : Weights) (m : Model) (c : ModelCommand) (stack : ℕ) (ws tables : List ℕ) → types.Well m → model_formed m ≡ true → IsMeasured w m c → IsSmall c
-    → AllByRecursion IsLimited (start.start m).facts → 1 ≤ length ws → length ws ≤ 250000 → length tables ≤ 131072 → stack % 16 ≡ 0 → stack ≤ 4096
+pub within : (w : Weights) (m : Model) (c : ModelCommand) (stack : ℕ) (ws tables : List ℕ) → types.Well m → model_formed m ≡ true
+    → IsMeasured w m c → IsSmall c
+    → AllByRecursion IsLimited (start.start m).facts → 1 ≤ length ws → length ws ≤ 250000 → length tables ≤ 131072
+    → stack % 16 ≡ 0 → stack ≤ 4096
     → IsWithinLimits (image_around m c.bound stack (bytes_of ws) tables)
 within w m c stack ws tables well formed measured small limited some most short aligned low =
     let size = code_length ws in
@@ -132,7 +141,8 @@ within w m c stack ws tables well formed measured small limited some most short 
     }
 
 -- the lists are as short with any code as with one instruction
-pub lists_short : (w : Weights) (m : Model) (c : ModelCommand) (stack : ℕ) (code tables : List ℕ) → types.Well m → model_formed m ≡ true → IsMeasured w m c → IsSmall c
+pub lists_short : (w : Weights) (m : Model) (c : ModelCommand) (stack : ℕ) (code tables : List ℕ) → types.Well m
+    → model_formed m ≡ true → IsMeasured w m c → IsSmall c
     → AllByRecursion IsLimited (start.start m).facts → length (lists (image_from 0 m c.bound stack code tables)) ≤ 450000
 lists_short w m c stack code tables well formed measured small limited =
     lists_small (image_around m c.bound 0 (bytes_of (0 ∷ [])) [])
@@ -140,8 +150,10 @@ lists_short w m c stack code tables well formed measured small limited =
 
 -- so are the lists of an image that has the model's
 pub short_image : (t : Typed) (c : ModelCommand) (i : Image) → IsMeasured weights.Weights.LARGE t.inner c → IsSmall c
-    → i.params ≡ map kind_of t.inner.params → i.requires_ ≡ (start.start t.inner).facts → i.rets ≡ map (result_place t.inner.params) t.inner.rets
+    → i.params ≡ map kind_of t.inner.params → i.requires_ ≡ (start.start t.inner).facts
+    → i.rets ≡ map (result_place t.inner.params) t.inner.rets
     → i.bound ≡ c.bound → AllByRecursion IsLimited i.requires_ → length (lists i) ≤ 450000
 short_image t c i measured small params requirements rets bound limited =
     let facts = subst (λ (fs : List LinearForm). AllByRecursion IsLimited fs) requirements limited in
-    rw (params, requirements, rets, bound) (lists_short weights.Weights.LARGE t.inner c 0 [] [] t.well t.formed measured small facts)
+    rw (params, requirements, rets, bound)
+    (lists_short weights.Weights.LARGE t.inner c 0 [] [] t.well t.formed measured small facts)

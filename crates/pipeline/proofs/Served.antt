@@ -1,5 +1,6 @@
 -- The command computes the model, three-address code keeps the command, and the instructions run as three-address code.
-use Rattle.std.proofs.Common.{◌≡◌, refl, sym, ◌∙◌, ap, subst, arith, ℕ, zero, suc, ◌+◌, ◌<◌, ◌≤◌, Bool, true, false, ◌||◌, nat_eq, ◌⊎◌, inl, inr, List, [], ◌∷◌, ◌++◌, length, replicate, Option, Some, None, slice_get}
+use Rattle.std.proofs.Common.{◌≡◌, refl, sym, ◌∙◌, ap, subst, arith, ℕ, zero, suc, ◌+◌, ◌<◌, ◌≤◌, Bool, true, false, ◌||◌, nat_eq}
+use Rattle.std.proofs.Common.{◌⊎◌, inl, inr, List, [], ◌∷◌, ◌++◌, length, replicate, Option, Some, None, slice_get}
 use Rattle.std.proofs.lemmas.Bool.{cases_eq, eqb-true}
 use Rattle.std.proofs.lemmas.List.{length-append, length-replicate}
 use Rattle.std.specs.FinMap.{get}
@@ -39,7 +40,8 @@ held regs k (suc n) = Some (register regs (10 + k)) ∷ held regs (suc k) n
 abbrev locals : List ℕ → ℕ → ℕ → Vars
 locals regs args room = held regs 0 args ++ replicate room None
 
-held_from : (regs : List ℕ) (k n l : ℕ) (more : Vars) → l < n → local_at (held regs k n ++ more) l ≡ Some (register regs (10 + (k + l)))
+held_from : (regs : List ℕ) (k n l : ℕ) (more : Vars) → l < n
+    → local_at (held regs k n ++ more) l ≡ Some (register regs (10 + (k + l)))
 held_from regs k zero l more below = absurd (omega (arith, below))
 held_from regs k (suc n) zero more below =
     let e : k ≡ k + 0 = omega arith in
@@ -68,7 +70,8 @@ held_below regs k (suc n) room (suc l) v at =
 length_locals : (regs : List ℕ) (args room : ℕ) → room ≤ length (locals regs args room)
 length_locals regs args room =
     let both : length (locals regs args room) ≡ length (held regs 0 args) + room =
-    length-append (held regs 0 args) (replicate room None) ∙ ap (λ n. length (held regs 0 args) + n) (length-replicate {A = Option ℕ} room None) in
+    length-append (held regs 0 args) (replicate room None)
+    ∙ ap (λ n. length (held regs 0 args) + n) (length-replicate {A = Option ℕ} room None) in
     omega (arith, both)
 
 -- a local among others is at most their greatest
@@ -76,7 +79,8 @@ known_most : (xs : List ℕ) (l : ℕ) → is_known xs l ≡ true → l ≤ grea
 known_most [] l is = absurd (cc)
 known_most (y ∷ ys) l is = by_head (nat_eq y l) refl is (known_most ys l)
   where
-    by_head : (same : Bool) → nat_eq y l ≡ same → same || is_known ys l ≡ true → (is_known ys l ≡ true → l ≤ greatest ys) → l ≤ greatest (y ∷ ys)
+    by_head : (same : Bool) → nat_eq y l ≡ same → same || is_known ys l ≡ true → (is_known ys l ≡ true → l ≤ greatest ys)
+        → l ≤ greatest (y ∷ ys)
     by_head true same is rest = let e : y ≡ l = eqb-true y l same in grind (arith, e)
     by_head false other is rest = let most : l ≤ greatest ys = rest is in grind (arith, most)
 
@@ -85,10 +89,13 @@ variable_of : (regs : List ℕ) (a k : ℕ) → k < a → get (arguments regs a)
 variable_of regs zero k below = absurd (omega (arith, below))
 variable_of regs (suc a) k below = by_place (cases_eq k a) (λ less. variable_of regs a k less)
   where
-    by_place : (k ≡ a) ⊎ (k ≡ a → ⊥) → (k < a → get (arguments regs a) k ≡ Some (register regs (10 + k))) → get (arguments regs (suc a)) k ≡ Some (register regs (10 + k))
+    by_place : (k ≡ a) ⊎ (k ≡ a → ⊥) → (k < a → get (arguments regs a) k ≡ Some (register regs (10 + k)))
+        → get (arguments regs (suc a)) k ≡ Some (register regs (10 + k))
     by_place (inl same) earlier =
-        subst (λ x. get (arguments regs (suc a)) x ≡ Some (register regs (10 + x))) (sym same) (get-insert_same (arguments regs a) a (register regs (10 + a)))
-    by_place (inr other) earlier = get-insert_other (arguments regs a) a (register regs (10 + a)) k other ∙ earlier (omega (arith, below, other))
+        subst (λ x. get (arguments regs (suc a)) x ≡ Some (register regs (10 + x))) (sym same)
+        (get-insert_same (arguments regs a) a (register regs (10 + a)))
+    by_place (inr other) earlier = get-insert_other (arguments regs a) a (register regs (10 + a)) k other
+        ∙ earlier (omega (arith, below, other))
 
 -- The call.
 
@@ -103,26 +110,29 @@ begins c s x n at =
     let below : x < c.args = held_below s.regs 0 c.args (room_of c) x n at in
     (below, variable_of s.regs c.args x below ∙ sym (held_at s.regs c.args (room_of c) x below) ∙ at)
 
-module _ (m : Model) (c : ModelCommand) (many : c.args ≡ registers m.params) (args : List Arg) (pointers : ℕ → ℕ) (s : State) where
-  abbrev ranges : List Range
-  ranges = array_ranges 0 m.params args pointers
+module _ (m : Model) (c : ModelCommand) (many : c.args ≡ registers m.params) (args : List Arg) (pointers : ℕ → ℕ) (s : State)
+  where
+    abbrev ranges : List Range
+    ranges = array_ranges 0 m.params args pointers
 
-  starts : HasArguments 0 0 m.params args pointers s.mem (argument_registers s) → AreApart (call_of m args pointers)
-      → Starts m c.command args pointers (part_of s.mem ranges) (vars_of c s)
-  starts has apart =
-      record {
-        arguments = arguments_carried 0 0 m.params args pointers s.mem (part_of s.mem ranges) (argument_registers s) (local_at (vars_of c s))
-            (λ k from to. held_at s.regs c.args (room_of c) k (omega (arith, to, many)))
-            (λ address b inside found. let part = is_part s.mem ranges address b in part.1 (inside, found)) has;
-        apart = apart;
-        room = λ l known.
-            let most = known_most (cmd_locals c.command []) l known in
-            let enough = length_locals s.regs c.args (room_of c) in
-            omega (arith, most, enough);
-      }
+    starts : HasArguments 0 0 m.params args pointers s.mem (argument_registers s) → AreApart (call_of m args pointers)
+        → Starts m c.command args pointers (part_of s.mem ranges) (vars_of c s)
+    starts has apart =
+        record {
+          arguments = arguments_carried 0 0 m.params args pointers s.mem (part_of s.mem ranges) (argument_registers s)
+              (local_at (vars_of c s))
+              (λ k from to. held_at s.regs c.args (room_of c) k (omega (arith, to, many)))
+              (λ address b inside found. let part = is_part s.mem ranges address b in part.1 (inside, found)) has;
+          apart = apart;
+          room = λ l known.
+              let most = known_most (cmd_locals c.command []) l known in
+              let enough = length_locals s.regs c.args (room_of c) in
+              omega (arith, most, enough);
+        }
 
 -- an address outside of what is returned, and outside of the stack
-other_byte : (s : State) (rs : List Range) (after_mem end : Bytes) (address : ℕ) (found : Option ℕ) → get (part_of s.mem rs) address ≡ found
+other_byte : (s : State) (rs : List Range) (after_mem end : Bytes) (address : ℕ) (found : Option ℕ)
+    → get (part_of s.mem rs) address ≡ found
     → get after_mem address ≡ get (part_of s.mem rs) address
     → ((b : ℕ) → get after_mem address ≡ Some b → get end address ≡ Some b)
     → (get after_mem address ≡ None → get end address ≡ get s.mem address)
@@ -141,17 +151,22 @@ moved rets places locals vars end returns results i l n is holds =
     let place = returns i l n is holds in
     ap (λ (v : ℕ). Some v) (results i place.0 n place.1 place.2)
 
-pub serves : (m : Model) (c : ModelCommand) (flat : Flat) (words tables : List ℕ) (stack : ℕ) → Computes weights.Weights.LARGE m c → c.args ≡ registers m.params
-    → Keeps c.command c.args c.rets flat → flat.args ≡ c.args → RunsAs weights.Weights.LARGE flat words tables stack → Serves m c words tables stack
+pub serves : (m : Model) (c : ModelCommand) (flat : Flat) (words tables : List ℕ) (stack : ℕ) → Computes weights.Weights.LARGE m c
+    → c.args ≡ registers m.params
+    → Keeps c.command c.args c.rets flat → flat.args ≡ c.args → RunsAs weights.Weights.LARGE flat words tables stack
+    → Serves m c words tables stack
 serves m c flat words tables stack computes many keeps same runs_as args pointers image start s meets has ready =
     let rs : List Range = array_ranges 0 m.params args pointers in
     let mem : Bytes = part_of s.mem rs in
     let vars : Vars = vars_of c s in
     let apart = are_apart m args pointers s.mem (argument_registers s) has ready.apart.1.1 in
-    let begin : Begins c.args vars (arguments s.regs flat.args) = subst (λ a. Begins c.args vars (arguments s.regs a)) (sym same) (begins c s) in
+    let begin : Begins c.args vars (arguments s.regs flat.args) =
+    subst (λ a. Begins c.args vars (arguments s.regs a)) (sym same) (begins c s) in
     let done = computes args meets pointers mem vars (starts m c many args pointers s has apart) in
-    let kept = keeps weights.Weights.LARGE refl done.fuel mem vars (arguments s.regs flat.args) begin done.ticks done.after_mem done.after_vars done.runs in
-    let back = runs_as image start rs s kept.fuel mem done.ticks done.after_mem kept.vars1 ready (is_part s.mem rs) (kept.runs kept.fuel (omega arith)) in
+    let kept = keeps weights.Weights.LARGE refl done.fuel mem vars (arguments s.regs flat.args) begin done.ticks done.after_mem
+    done.after_vars done.runs in
+    let back = runs_as image start rs s kept.fuel mem done.ticks done.after_mem kept.vars1 ready (is_part s.mem rs)
+    (kept.runs kept.fuel (omega arith)) in
     record {
       steps = back.steps;
       end = back.end;
@@ -159,10 +174,12 @@ serves m c flat words tables stack computes many keeps same runs_as args pointer
       back = back.back;
       before = back.before;
       in_time = omega (arith, back.in_time, done.in_time);
-      has_results = results_carried m.params pointers m.rets (results m args) c.rets done.after_mem back.end.mem (local_at done.after_vars) (argument_registers back.end)
+      has_results = results_carried m.params pointers m.rets (results m args) c.rets done.after_mem back.end.mem
+          (local_at done.after_vars) (argument_registers back.end)
           back.arrays (moved c.rets flat.rets done.after_vars kept.vars1 back.end kept.returns back.results) done.has_results;
       saved = back.saved;
       others = λ address outside unreturned.
-          other_byte s rs done.after_mem back.end.mem address (get mem address) refl (done.others address unreturned) (back.arrays address) (back.others address outside);
+          other_byte s rs done.after_mem back.end.mem address (get mem address) refl (done.others address unreturned)
+          (back.arrays address) (back.others address outside);
       same_addresses = back.same_addresses;
     }

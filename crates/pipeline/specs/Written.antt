@@ -17,7 +17,8 @@ abbrev pub bytes_of : List ℕ → List ℕ
 bytes_of words = flat_map (to_le_bytes w32) words
 
 -- An image of version 1 with the bound, and with at most as many instructions as the weight, whose operations that are
--- known by the words of their instructions are those of the command, in order. It is good for the model: `Good` says that parameters,
+-- known by the words of their instructions are those of the command, in
+-- order. It is good for the model: `Good` says that parameters,
 -- requirements and results are the model's, and that each call returns within the bound with the model's value.
 pub record Written (m : Model) (command : Cmd) (bound : List Term) (weight : ℕ) (bytes : List ℕ) : Type 0 where
   pub image : Image

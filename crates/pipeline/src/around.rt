@@ -63,7 +63,8 @@ fn image_around(alloc: Global, m: &Typed, c: &ModelCommand, e: &Emitted) -> Resu
 fn image_of(alloc: Global, m: &Typed, c: &ModelCommand, e: &Emitted) -> Result<Image, NoMemory>
     requires measured { IsMeasured Weights.LARGE m.now.inner c.now }
     requires small { IsSmall c.now }
-    ensures image { IfOk result (λ i. i ≡ around.image_around m.now.inner c.now.bound e.now.stack (bytes_of (map word_of e.now.code)) e.now.tables) }
+    ensures image { IfOk result (λ i. i
+        ≡ around.image_around m.now.inner c.now.bound e.now.stack (bytes_of (map word_of e.now.code)) e.now.tables) }
     ensures limited { IfOk result (λ i. AllByRecursion IsLimited i.requires_) }
 {
     let model = &m.inner;

@@ -1,5 +1,6 @@
 -- What the walk over sets decides of a plan is what the paths say.
-use Rattle.std.proofs.Common.{◌≡◌, refl, ap, ◌∙◌, subst, sym, arith, ℕ, zero, suc, ◌+◌, ◌<◌, Bool, true, false, not, ◌||◌, ◌&&◌, nat_eq, nat_lt, List, [], ◌∷◌, map, length, Option, Some, None, slice_get, ◌⊎◌, inl, inr}
+use Rattle.std.proofs.Common.{◌≡◌, refl, ap, ◌∙◌, subst, sym, arith, ℕ, zero, suc, ◌+◌, ◌<◌, Bool, true, false, not, ◌||◌, ◌&&◌}
+use Rattle.std.proofs.Common.{nat_eq, nat_lt, List, [], ◌∷◌, map, length, Option, Some, None, slice_get, ◌⊎◌, inl, inr}
 use Rattle.std.specs.Prelude.{slice_index_or, option_map, unwrap_or}
 use Rattle.std.specs.List.{AllByRecursion}
 use Rattle.std.proofs.lemmas.Bool.{cases_eq, ltb-true}
@@ -33,17 +34,23 @@ head_since true n q k x h = by_case (cases_eq n q)
     by_case (inl same) = let e = h refl same in grind (arith, e)
     by_case (inr other) = grind (arith, other)
 
-says : (q x k : ℕ) (ps : List ℕ) (m : Lives) → alone_from q x k ps (from (length ps) m) ≡ true → (i p : ℕ) → slice_get ps i ≡ Some p → m i ≡ true → p ≡ q → k + i ≡ x
+says : (q x k : ℕ) (ps : List ℕ) (m : Lives) → alone_from q x k ps (from (length ps) m) ≡ true → (i p : ℕ)
+    → slice_get ps i ≡ Some p → m i ≡ true → p ≡ q → k + i ≡ x
 says q x k [] m h i p is live same = absurd (let bad : ◌≡◌ {A = Option ℕ} None (Some p) = is in cc)
 says q x k (n ∷ ps) m h zero p is live same =
     let e : n ≡ p = cc in
-    let here = head_says (m 0) n q k x (and_left (not (m 0 && nat_eq n q) || nat_eq k x) (alone_from q x (k + 1) ps (from (length ps) (λ v. m (suc v)))) h) live (e ∙ same) in
+    let here = head_says (m 0) n q k x
+    (and_left (not (m 0 && nat_eq n q) || nat_eq k x) (alone_from q x (k + 1) ps (from (length ps) (λ v. m (suc v)))) h)
+    live (e ∙ same) in
     omega arith
 says q x k (n ∷ ps) m h (suc i) p is live same =
-    let rest = says q x (k + 1) ps (λ v. m (suc v)) (and_right (not (m 0 && nat_eq n q) || nat_eq k x) (alone_from q x (k + 1) ps (from (length ps) (λ v. m (suc v)))) h) i p is live same in
+    let rest = says q x (k + 1) ps (λ v. m (suc v))
+    (and_right (not (m 0 && nat_eq n q) || nat_eq k x) (alone_from q x (k + 1) ps (from (length ps) (λ v. m (suc v)))) h) i
+    p is live same in
     omega arith
 
-since : (q x k : ℕ) (ps : List ℕ) (m : Lives) → ((i p : ℕ) → slice_get ps i ≡ Some p → m i ≡ true → p ≡ q → k + i ≡ x) → alone_from q x k ps (from (length ps) m) ≡ true
+since : (q x k : ℕ) (ps : List ℕ) (m : Lives) → ((i p : ℕ) → slice_get ps i ≡ Some p → m i ≡ true → p ≡ q → k + i ≡ x)
+    → alone_from q x k ps (from (length ps) m) ≡ true
 since q x k [] m h = refl
 since q x k (n ∷ ps) m h =
     and_both (not (m 0 && nat_eq n q) || nat_eq k x) (alone_from q x (k + 1) ps (from (length ps) (λ v. m (suc v))))
@@ -70,11 +77,13 @@ last_or n u test less before last = by_case (cases_eq u n)
 below_says : (n : ℕ) (test : ℕ → Bool) → all_below n test ≡ true → (u : ℕ) → u < n → test u ≡ true
 below_says zero test h u less = absurd (omega arith)
 below_says (suc n) test h u less =
-    last_or n u test less (λ smaller. below_says n test (and_left (all_below n test) (test n) h) u smaller) (and_right (all_below n test) (test n) h)
+    last_or n u test less (λ smaller. below_says n test (and_left (all_below n test) (test n) h) u smaller)
+    (and_right (all_below n test) (test n) h)
 
 below_since : (n : ℕ) (test : ℕ → Bool) → ((u : ℕ) → u < n → test u ≡ true) → all_below n test ≡ true
 below_since zero test h = refl
-below_since (suc n) test h = and_both (all_below n test) (test n) (below_since n test (λ u less. h u (omega arith))) (h n (omega arith))
+below_since (suc n) test h = and_both (all_below n test) (test n) (below_since n test (λ u less. h u (omega arith)))
+    (h n (omega arith))
 
 or_since : (a b : Bool) → (a ≡ true → b ≡ true) → (not a || b) ≡ true
 or_since true b h = h refl
@@ -88,7 +97,8 @@ mapped : (o : Option At) (p : ℕ) → option_map number o ≡ Some p → (a : A
 mapped None p h = absurd (let bad : ◌≡◌ {A = Option ℕ} None (Some p) = h in cc)
 mapped (Some a) p h = (a, (refl, let e : ◌≡◌ {A = Option ℕ} (Some (number a)) (Some p) = h in cc))
 
-module _ (flat : Flat) (plan : Plan) (one_each : length plan.places ≡ flat.vars) (valid : all_true (map (is_place flat.vars) plan.places) ≡ true) where
+module _ (flat : Flat) (plan : Plan) (one_each : length plan.places ≡ flat.vars)
+    (valid : all_true (map (is_place flat.vars) plan.places) ≡ true) where
   abbrev nums : List ℕ
   nums = map number plan.places
 
@@ -98,26 +108,33 @@ module _ (flat : Flat) (plan : Plan) (one_each : length plan.places ≡ flat.var
   number_at : (i : ℕ) (a : At) → slice_get plan.places i ≡ Some a → slice_get nums i ≡ Some (number a)
   number_at i a is = slice_get-map number plan.places i ∙ ap (λ o. option_map number o) is
 
-  clear_says : (x : ℕ) (l : Lives) → alone nums x (from flat.vars l) ≡ true → (v : ℕ) → l v ≡ true → (v ≡ x → ⊥) → Share plan.places v x → ⊥
+  clear_says : (x : ℕ) (l : Lives) → alone nums x (from flat.vars l) ≡ true → (v : ℕ) → l v ≡ true → (v ≡ x → ⊥)
+      → Share plan.places v x → ⊥
   clear_says x l h v live other share =
       let is = number_at v share.0 share.1.0 in
-      let are : slice_index_or nums x 0 ≡ number share.0 = get_or_from_slice_get nums x (number share.0) 0 (number_at x share.0 share.1.1) in
+      let are : slice_index_or nums x 0
+      ≡ number share.0 = get_or_from_slice_get nums x (number share.0) 0 (number_at x share.0 share.1.1) in
       let all : alone nums x (from (length nums) l) ≡ true = subst (λ n. alone nums x (from n l) ≡ true) (sym counted) h in
       let e = says (slice_index_or nums x 0) x 0 nums l all v (number share.0) is live (sym are) in
       other (omega arith)
 
-  sharing : (x i p : ℕ) (o : Option At) → slice_get plan.places x ≡ o → slice_get nums i ≡ Some p → p ≡ slice_index_or nums x 0 → Share plan.places i x
+  sharing : (x i p : ℕ) (o : Option At) → slice_get plan.places x ≡ o → slice_get nums i ≡ Some p → p ≡ slice_index_or nums x 0
+      → Share plan.places i x
   sharing x i p None are is same =
       let m = mapped (slice_get plan.places i) p (sym (slice_get-map number plan.places i) ∙ is) in
-      let none : slice_index_or nums x 0 ≡ 0 = sym (unwrap_or-slice_get nums x 0) ∙ ap (λ o. unwrap_or o 0) (slice_get-map number plan.places x ∙ ap (λ o. option_map number o) are) in
+      let none : slice_index_or nums x 0
+      ≡ 0 = sym (unwrap_or-slice_get nums x 0)
+      ∙ ap (λ o. unwrap_or o 0) (slice_get-map number plan.places x ∙ ap (λ o. option_map number o) are) in
       absurd (number_positive flat.vars m.0 (each_valid flat.vars plan.places valid i m.0 m.1.0) (m.1.1 ∙ same ∙ none))
   sharing x i p (Some b) are is same =
       let m = mapped (slice_get plan.places i) p (sym (slice_get-map number plan.places i) ∙ is) in
       let there : slice_index_or nums x 0 ≡ number b = get_or_from_slice_get nums x (number b) 0 (number_at x b are) in
-      let e = same_number flat.vars m.0 b (each_valid flat.vars plan.places valid i m.0 m.1.0) (each_valid flat.vars plan.places valid x b are) (m.1.1 ∙ same ∙ there) in
+      let e = same_number flat.vars m.0 b (each_valid flat.vars plan.places valid i m.0 m.1.0)
+      (each_valid flat.vars plan.places valid x b are) (m.1.1 ∙ same ∙ there) in
       (b, (m.1.0 ∙ ap Some e, are))
 
-  clear_since : (x : ℕ) (l : Lives) → ((v : ℕ) → l v ≡ true → (v ≡ x → ⊥) → Share plan.places v x → ⊥) → alone nums x (from flat.vars l) ≡ true
+  clear_since : (x : ℕ) (l : Lives) → ((v : ℕ) → l v ≡ true → (v ≡ x → ⊥) → Share plan.places v x → ⊥)
+      → alone nums x (from flat.vars l) ≡ true
   clear_since x l h = subst (λ n. alone nums x (from n l) ≡ true) counted (since (slice_index_or nums x 0) x 0 nums l each)
     where
       each : (i p : ℕ) → slice_get nums i ≡ Some p → l i ≡ true → p ≡ slice_index_or nums x 0 → 0 + i ≡ x
@@ -135,7 +152,8 @@ module _ (flat : Flat) (plan : Plan) (one_each : length plan.places ≡ flat.var
   all_fit [] = true
   all_fit (q ∷ qs) = one_fits q.writes q.after (all_fit qs)
 
-  seen_fits : (o : Option ℕ) (l : Lives) (fit : Bool) → seen o (from flat.vars l) (Places nums fit) ≡ Places nums (one_fits o l fit)
+  seen_fits : (o : Option ℕ) (l : Lives) (fit : Bool) → seen o (from flat.vars l) (Places nums fit)
+      ≡ Places nums (one_fits o l fit)
   seen_fits None l fit = refl
   seen_fits (Some x) l fit = refl
 
@@ -143,15 +161,18 @@ module _ (flat : Flat) (plan : Plan) (one_each : length plan.places ≡ flat.var
   replay_fits [] = refl
   replay_fits (q ∷ qs) = ap (seen q.writes (from flat.vars q.after)) (replay_fits qs) ∙ seen_fits q.writes q.after (all_fit qs)
 
-  one_says : (o : Option ℕ) (l : Lives) (fit : Bool) → one_fits o l fit ≡ true → (x : ℕ) → o ≡ Some x → alone nums x (from flat.vars l) ≡ true
+  one_says : (o : Option ℕ) (l : Lives) (fit : Bool) → one_fits o l fit ≡ true → (x : ℕ) → o ≡ Some x
+      → alone nums x (from flat.vars l) ≡ true
   one_says None l fit h x is = absurd (let bad : ◌≡◌ {A = Option ℕ} None (Some x) = is in cc)
-  one_says (Some y) l fit h x is = let e : y ≡ x = cc in subst (λ z. alone nums z (from flat.vars l) ≡ true) e (and_right fit (alone nums y (from flat.vars l)) h)
+  one_says (Some y) l fit h x is = let e : y ≡ x = cc in
+      subst (λ z. alone nums z (from flat.vars l) ≡ true) e (and_right fit (alone nums y (from flat.vars l)) h)
 
   one_rest : (o : Option ℕ) (l : Lives) (fit : Bool) → one_fits o l fit ≡ true → fit ≡ true
   one_rest None l fit h = h
   one_rest (Some y) l fit h = and_left fit (alone nums y (from flat.vars l)) h
 
-  one_since : (o : Option ℕ) (l : Lives) (fit : Bool) → fit ≡ true → ((x : ℕ) → o ≡ Some x → alone nums x (from flat.vars l) ≡ true) → one_fits o l fit ≡ true
+  one_since : (o : Option ℕ) (l : Lives) (fit : Bool) → fit ≡ true
+      → ((x : ℕ) → o ≡ Some x → alone nums x (from flat.vars l) ≡ true) → one_fits o l fit ≡ true
   one_since None l fit h g = h
   one_since (Some x) l fit h g = and_both fit (alone nums x (from flat.vars l)) h (g x refl)
 
@@ -160,7 +181,8 @@ module _ (flat : Flat) (plan : Plan) (one_each : length plan.places ≡ flat.var
   fits_clear [] (q ∷ qs) alike h = tt
   fits_clear (s ∷ ss) [] alike h = absurd alike
   fits_clear (s ∷ ss) (q ∷ qs) alike h = (
-    λ x v writes live other share. clear_says x q.after (one_says q.writes q.after (all_fit qs) h x (sym alike.0 ∙ writes)) v (sym (alike.1.0 v) ∙ live) other share,
+    λ x v writes live other share. clear_says x q.after (one_says q.writes q.after (all_fit qs) h x (sym alike.0 ∙ writes)) v
+        (sym (alike.1.0 v) ∙ live) other share,
     fits_clear ss qs alike.1.1 (one_rest q.writes q.after (all_fit qs) h),
   )
 
@@ -191,26 +213,32 @@ module _ (flat : Flat) (plan : Plan) (one_each : length plan.places ≡ flat.var
   fronted_live v h = (0, start_alike 0 flat v ∙ and_right (nat_lt (0 + v) flat.args) (flat_need flat v) h)
 
   abbrev ArgumentsApart : Type 0
-  ArgumentsApart = (u v : ℕ) → u < flat.args → v < flat.args → LiveAtStart flat u → LiveAtStart flat v → (u ≡ v → ⊥) → Share plan.places u v → ⊥
+  ArgumentsApart = (u v : ℕ) → u < flat.args → v < flat.args → LiveAtStart flat u → LiveAtStart flat v → (u ≡ v → ⊥)
+      → Share plan.places u v → ⊥
 
   arguments_say : all_below flat.args test ≡ true → ArgumentsApart
   arguments_say h u v less also live lives other share =
       let here : u < flat.vars = subst (λ n. u < n) one_each (within plan.places u share.0 share.1.0) in
-      let holds : slice_index_or (from flat.vars fronted) u false ≡ true = from_at flat.vars fronted u here ∙ fronted_since u less live in
-      let free = or_says (slice_index_or (from flat.vars fronted) u false) (alone nums u (from flat.vars fronted)) (below_says flat.args test h u less) holds in
+      let holds : slice_index_or (from flat.vars fronted) u false
+      ≡ true = from_at flat.vars fronted u here ∙ fronted_since u less live in
+      let free = or_says (slice_index_or (from flat.vars fronted) u false) (alone nums u (from flat.vars fronted))
+      (below_says flat.args test h u less) holds in
       clear_says u fronted free v (fronted_since v also lives) (λ e. other (sym e)) (share.0, (share.1.1, share.1.0))
 
   arguments_since : ArgumentsApart → all_below flat.args test ≡ true
   arguments_since h = below_since flat.args test (λ u less.
       or_since (slice_index_or (from flat.vars fronted) u false) (alone nums u (from flat.vars fronted)) (λ holds.
       clear_since u fronted (λ v live other share.
-      h u v less (fronted_less v live) (fronted_live u (at_from flat.vars fronted u holds)) (fronted_live v live) (λ e. other (sym e)) (share.0, (share.1.1, share.1.0)))))
+      h u v less (fronted_less v live) (fronted_live u (at_from flat.vars fronted u holds)) (fronted_live v live)
+      (λ e. other (sym e)) (share.0, (share.1.1, share.1.0)))))
 
   code_fits_is : code_fits flat nums ≡ (all_fit (flat_points flat) && all_below flat.args test)
   code_fits_is =
       ap (λ (z : Marks). fits_to_start flat.args z ((code_visit flat.body).note (at_end flat) (Places nums true))) (start_is flat)
-      ∙ ap (fits_to_start flat.args (from flat.vars (flat_need flat))) (notes_are flat (Places nums true) ∙ replay_fits (flat_points flat))
-      ∙ ap (λ (z : Marks). all_fit (flat_points flat) && arguments_fit flat.args nums z) (front_is flat.args 0 flat.vars (flat_need flat))
+      ∙ ap (fits_to_start flat.args (from flat.vars (flat_need flat)))
+      (notes_are flat (Places nums true) ∙ replay_fits (flat_points flat))
+      ∙ ap (λ (z : Marks). all_fit (flat_points flat) && arguments_fit flat.args nums z)
+      (front_is flat.args 0 flat.vars (flat_need flat))
 
   pub code_says : code_fits flat nums ≡ true → PlanOk flat plan
   code_says h =
@@ -218,7 +246,8 @@ module _ (flat : Flat) (plan : Plan) (one_each : length plan.places ≡ flat.var
       record {
         one_each = one_each;
         places = valid;
-        writes = λ n. fits_clear (flat_steps (suc n) flat) (flat_points flat) (steps_alike n flat) (and_left (all_fit (flat_points flat)) (all_below flat.args test) both);
+        writes = λ n. fits_clear (flat_steps (suc n) flat) (flat_points flat) (steps_alike n flat)
+            (and_left (all_fit (flat_points flat)) (all_below flat.args test) both);
         arguments = arguments_say (and_right (all_fit (flat_points flat)) (all_below flat.args test) both);
       }
 

@@ -1,10 +1,12 @@
 -- The walk over sets finds for each variable what its needs say.
-use Rattle.std.proofs.Common.{◌≡◌, refl, ap, ◌∙◌, subst, sym, arith, ℕ, zero, suc, ◌+◌, Bool, true, false, not, ◌||◌, ◌&&◌, nat_eq, nat_lt, List, [], ◌∷◌, ◌++◌, map, length, replicate, Option, Some, None}
+use Rattle.std.proofs.Common.{◌≡◌, refl, ap, ◌∙◌, subst, sym, arith, ℕ, zero, suc, ◌+◌, Bool, true, false, not, ◌||◌, ◌&&◌}
+use Rattle.std.proofs.Common.{nat_eq, nat_lt, List, [], ◌∷◌, ◌++◌, map, length, replicate, Option, Some, None}
 use Rattle.flat_lang.specs.declared.flat.FStmt.{FStmt, FStmt-F, fold-roll-FStmt, map-FStmt, roll-FStmt, ind-FStmt}
 use Rattle.flat_lang.specs.declared.flat.FStmt.TheOpen as f
 use Rattle.flat_lang.specs.declared.flat.Flat.{Flat}
 use Rattle.flat_lang.specs.Paths.{read, takes}
-use Rattle.flat_lang.specs.Backwards.{Lives, Point, Walk, reads, sets, walks, turned, tested, one, walk_step, walk, code_walk, returned, flat_points, flat_need}
+use Rattle.flat_lang.specs.Backwards.{Lives, Point, Walk, reads, sets, walks, turned, tested, one, walk_step, walk, code_walk}
+use Rattle.flat_lang.specs.Backwards.{returned, flat_points, flat_need}
 use Rattle.reg_alloc.specs.declared.watch.Watch.{Watch}
 use Rattle.reg_alloc.specs.Marks.{Marks, blank, either}
 use Rattle.reg_alloc.specs.Visit.{Visit, seen, visits, single, put, cut, head, at_test, visit_step, visit, code_visit}
@@ -20,7 +22,8 @@ two a b l r h g = ap (λ x. x ∷ l) h ∙ ap (λ (y : Marks). b ∷ y) g
 
 pub from_same : (n : ℕ) (m r : Lives) → ((v : ℕ) → m v ≡ r v) → from n m ≡ from n r
 from_same zero m r h = refl
-from_same (suc n) m r h = two (m 0) (r 0) (from n (λ v. m (suc v))) (from n (λ v. r (suc v))) (h 0) (from_same n (λ v. m (suc v)) (λ v. r (suc v)) (λ v. h (suc v)))
+from_same (suc n) m r h = two (m 0) (r 0) (from n (λ v. m (suc v))) (from n (λ v. r (suc v))) (h 0)
+    (from_same n (λ v. m (suc v)) (λ v. r (suc v)) (λ v. h (suc v)))
 
 reads_first : (k : Bool) → true ≡ reads 0 0 k
 reads_first k = grind (arith)
@@ -48,17 +51,23 @@ sets_next x v k = let e : nat_eq v x ≡ nat_eq (suc v) (suc x) = grind (arith) 
 
 pub put_is : (n x : ℕ) (m : Lives) → put (from n m) x ≡ from n (λ v. reads x v (m v))
 put_is zero x m = refl
-put_is (suc n) zero m = two _ _ _ _ (reads_first (m 0)) (from_same n (λ v. m (suc v)) (λ v. reads 0 (suc v) (m (suc v))) (λ v. reads_past v (m (suc v))))
+put_is (suc n) zero m = two _ _ _ _ (reads_first (m 0))
+    (from_same n (λ v. m (suc v)) (λ v. reads 0 (suc v) (m (suc v))) (λ v. reads_past v (m (suc v))))
 put_is (suc n) (suc x) m =
-    two (m 0) (reads (suc x) 0 (m 0)) (put (from n (λ v. m (suc v))) x) (from n (λ v. reads (suc x) (suc v) (m (suc v)))) (reads_before x (m 0))
-    (put_is n x (λ v. m (suc v)) ∙ from_same n (λ v. reads x v (m (suc v))) (λ v. reads (suc x) (suc v) (m (suc v))) (λ v. reads_next x v (m (suc v))))
+    two (m 0) (reads (suc x) 0 (m 0)) (put (from n (λ v. m (suc v))) x) (from n (λ v. reads (suc x) (suc v) (m (suc v))))
+    (reads_before x (m 0))
+    (put_is n x (λ v. m (suc v)) ∙ from_same n (λ v. reads x v (m (suc v))) (λ v. reads (suc x) (suc v) (m (suc v)))
+    (λ v. reads_next x v (m (suc v))))
 
 pub cut_is : (n x : ℕ) (m : Lives) → cut (from n m) x ≡ from n (λ v. sets x v (m v))
 cut_is zero x m = refl
-cut_is (suc n) zero m = two _ _ _ _ (sets_first (m 0)) (from_same n (λ v. m (suc v)) (λ v. sets 0 (suc v) (m (suc v))) (λ v. sets_past v (m (suc v))))
+cut_is (suc n) zero m = two _ _ _ _ (sets_first (m 0))
+    (from_same n (λ v. m (suc v)) (λ v. sets 0 (suc v) (m (suc v))) (λ v. sets_past v (m (suc v))))
 cut_is (suc n) (suc x) m =
-    two (m 0) (sets (suc x) 0 (m 0)) (cut (from n (λ v. m (suc v))) x) (from n (λ v. sets (suc x) (suc v) (m (suc v)))) (sets_before x (m 0))
-    (cut_is n x (λ v. m (suc v)) ∙ from_same n (λ v. sets x v (m (suc v))) (λ v. sets (suc x) (suc v) (m (suc v))) (λ v. sets_next x v (m (suc v))))
+    two (m 0) (sets (suc x) 0 (m 0)) (cut (from n (λ v. m (suc v))) x) (from n (λ v. sets (suc x) (suc v) (m (suc v))))
+    (sets_before x (m 0))
+    (cut_is n x (λ v. m (suc v)) ∙ from_same n (λ v. sets x v (m (suc v))) (λ v. sets (suc x) (suc v) (m (suc v)))
+    (λ v. sets_next x v (m (suc v))))
 
 pub either_is : (n : ℕ) (m r : Lives) → either (from n m) (from n r) ≡ from n (λ v. m v || r v)
 either_is zero m r = refl
@@ -92,7 +101,8 @@ module _ (n : ℕ) where
   nothing_exact : Exact (visits []) (walks [])
   nothing_exact = record { back = λ m. refl; note = λ m watch. refl }
 
-  then_exact : (c : Visit) (cs : List Visit) (w : Walk) (ws : List Walk) → Exact c w → Exact (visits cs) (walks ws) → Exact (visits (c ∷ cs)) (walks (w ∷ ws))
+  then_exact : (c : Visit) (cs : List Visit) (w : Walk) (ws : List Walk) → Exact c w → Exact (visits cs) (walks ws)
+      → Exact (visits (c ∷ cs)) (walks (w ∷ ws))
   then_exact c cs w ws first rest = record {
     back = λ m. ap c.back (rest.back m) ∙ first.back (λ v. (walks ws).need v (m v));
     note = λ m watch.
@@ -102,7 +112,8 @@ module _ (n : ℕ) where
         ∙ sym (replay_append (w.points (λ v. (walks ws).need v (m v))) ((walks ws).points m) watch);
   }
 
-  single_exact : (writes : Option ℕ) (back : Marks → Marks) (need : ℕ → Bool → Bool) → ((m : Lives) → back (from n m) ≡ from n (λ v. need v (m v))) → Exact (single writes back) (one writes need)
+  single_exact : (writes : Option ℕ) (back : Marks → Marks) (need : ℕ → Bool → Bool)
+      → ((m : Lives) → back (from n m) ≡ from n (λ v. need v (m v))) → Exact (single writes back) (one writes need)
   single_exact writes back need h = record { back = h; note = λ m watch. refl }
 
   module _ (x : ℕ) (a b : Visit) (va vb : Walk) (first : Exact a va) (second : Exact b vb) where
@@ -126,7 +137,8 @@ module _ (n : ℕ) where
           ∙ ap (λ (z : Marks). put z x) (either_is n (λ v. va.need v (m v)) (λ v. vb.need v (m v)))
           ∙ put_is n x (λ v. va.need v (m v) || vb.need v (m v));
       note = λ m watch.
-          ap (seen None (from n m)) (ap (a.note (from n m)) (second.note m watch) ∙ first.note m (replay (vb.points m) watch) ∙ sym (replay_append (va.points m) (vb.points m) watch));
+          ap (seen None (from n m)) (ap (a.note (from n m)) (second.note m watch) ∙ first.note m (replay (vb.points m) watch)
+          ∙ sym (replay_append (va.points m) (vb.points m) watch));
     }
 
     abbrev loop : Visit
@@ -138,7 +150,8 @@ module _ (n : ℕ) where
     abbrev loop_walk : Walk
     loop_walk = record {
       need = λ v k. turned va x vb v k;
-      points = λ l. record { writes = None; after = l } ∷ (va.points (λ v. tested va x vb v (l v)) ++ vb.points (λ v. turned va x vb v (l v)));
+      points = λ l. record { writes = None; after = l }
+          ∷ (va.points (λ v. tested va x vb v (l v)) ++ vb.points (λ v. turned va x vb v (l v)));
     }
 
     head_is : (m : Lives) → head a x b (from n m) ≡ from n (λ v. turned va x vb v (m v))
@@ -190,7 +203,8 @@ module _ (n : ℕ) where
   moved : (x y : ℕ) (m : Lives) → put (cut (from n m) x) y ≡ from n (λ v. reads y v (sets x v (m v)))
   moved x y m = ap (λ (z : Marks). put z y) (cut_is n x m) ∙ put_is n y (λ v. sets x v (m v))
 
-  step_exact : (y : FStmt-F Proved) → Exact (visit_step (map-FStmt FStmt Visit visit (bare y))) (walk_step (map-FStmt FStmt Walk walk (bare y)))
+  step_exact : (y : FStmt-F Proved)
+      → Exact (visit_step (map-FStmt FStmt Visit visit (bare y))) (walk_step (map-FStmt FStmt Walk walk (bare y)))
   step_exact (f.Lit x value) = single_exact (Some x) (λ set. cut set x) (λ v k. sets x v k) (λ m. cut_is n x m)
   step_exact (f.Copy x y) = single_exact (Some x) (λ set. put (cut set x) y) (λ v k. reads y v (sets x v k)) (moved x y)
   step_exact (f.Bin op x y z) =
@@ -199,14 +213,18 @@ module _ (n : ℕ) where
   step_exact (f.Load size x y) = single_exact (Some x) (λ set. put (cut set x) y) (λ v k. reads y v (sets x v k)) (moved x y)
   step_exact (f.Table size x k y) = single_exact (Some x) (λ set. put (cut set x) y) (λ v k. reads y v (sets x v k)) (moved x y)
   step_exact (f.Store size x y) =
-      single_exact None (λ set. put (put set y) x) (λ v k. reads x v (reads y v k)) (λ m. ap (λ (s : Marks). put s x) (put_is n y m) ∙ put_is n x (λ v. reads y v (m v)))
-  step_exact (f.If x a b) = if_exact x (visits (visits_of a)) (visits (visits_of b)) (walks (walks_of a)) (walks (walks_of b)) (row_exact a) (row_exact b)
-  step_exact (f.While a x b) = while_exact x (visits (visits_of a)) (visits (visits_of b)) (walks (walks_of a)) (walks (walks_of b)) (row_exact a) (row_exact b)
+      single_exact None (λ set. put (put set y) x) (λ v k. reads x v (reads y v k))
+      (λ m. ap (λ (s : Marks). put s x) (put_is n y m) ∙ put_is n x (λ v. reads y v (m v)))
+  step_exact (f.If x a b) = if_exact x (visits (visits_of a)) (visits (visits_of b)) (walks (walks_of a)) (walks (walks_of b))
+      (row_exact a) (row_exact b)
+  step_exact (f.While a x b) = while_exact x (visits (visits_of a)) (visits (visits_of b)) (walks (walks_of a))
+      (walks (walks_of b)) (row_exact a) (row_exact b)
 
   node_exact : (y : FStmt-F Proved) → Fine (roll-FStmt (bare y))
   node_exact y =
       subst (λ r. Exact r (walk (roll-FStmt (bare y)))) (sym (fold-roll-FStmt Visit visit_step (bare y)))
-      (subst (λ w. Exact (visit_step (map-FStmt FStmt Visit visit (bare y))) w) (sym (fold-roll-FStmt Walk walk_step (bare y))) (step_exact y))
+      (subst (λ w. Exact (visit_step (map-FStmt FStmt Visit visit (bare y))) w) (sym (fold-roll-FStmt Walk walk_step (bare y)))
+      (step_exact y))
 
   stmt_exact : (c : FStmt) → Fine c
   stmt_exact = ind-FStmt Fine (λ x y is. subst (λ z. Fine (roll-FStmt z)) is (node_exact y))
@@ -232,15 +250,20 @@ pub front_is : (args k n : ℕ) (m : Lives) → front_from args k (from n m) ≡
 front_is args k zero m = refl
 front_is args k (suc n) m =
     let here : k ≡ k + 0 = omega arith in
-    two (nat_lt k args && m 0) (nat_lt (k + 0) args && m 0) (front_from args (k + 1) (from n (λ v. m (suc v)))) (from n (λ v. nat_lt (k + suc v) args && m (suc v)))
+    two (nat_lt k args && m 0) (nat_lt (k + 0) args && m 0) (front_from args (k + 1) (from n (λ v. m (suc v))))
+    (from n (λ v. nat_lt (k + suc v) args && m (suc v)))
     (ap (λ j. nat_lt j args && m 0) here)
     (front_is args (k + 1) n (λ v. m (suc v))
-    ∙ from_same n (λ v. nat_lt (k + 1 + v) args && m (suc v)) (λ v. nat_lt (k + suc v) args && m (suc v)) (λ v. let e : k + 1 + v ≡ k + suc v = omega arith in ap (λ j. nat_lt j args && m (suc v)) e))
+    ∙ from_same n (λ v. nat_lt (k + 1 + v) args && m (suc v)) (λ v. nat_lt (k + suc v) args && m (suc v))
+    (λ v. let e : k + 1 + v ≡ k + suc v = omega arith in ap (λ j. nat_lt j args && m (suc v)) e))
 
 -- of a whole code
 pub start_is : (flat : Flat) → at_start flat ≡ from flat.vars (flat_need flat)
-start_is flat = ap (code_visit flat.body).back (end_is flat.vars flat.rets) ∙ (body_exact flat.vars flat.body).back (returned flat.rets)
+start_is flat = ap (code_visit flat.body).back (end_is flat.vars flat.rets)
+    ∙ (body_exact flat.vars flat.body).back (returned flat.rets)
 
-pub notes_are : (flat : Flat) (watch : Watch) → (code_visit flat.body).note (at_end flat) watch ≡ replay flat.vars (flat_points flat) watch
+pub notes_are : (flat : Flat) (watch : Watch) → (code_visit flat.body).note (at_end flat) watch
+    ≡ replay flat.vars (flat_points flat) watch
 notes_are flat watch =
-    ap (λ (z : Marks). (code_visit flat.body).note z watch) (end_is flat.vars flat.rets) ∙ (body_exact flat.vars flat.body).note (returned flat.rets) watch
+    ap (λ (z : Marks). (code_visit flat.body).note z watch) (end_is flat.vars flat.rets)
+    ∙ (body_exact flat.vars flat.body).note (returned flat.rets) watch

@@ -1,5 +1,6 @@
 -- One step of a union, and its end.
-use Rattle.std.proofs.Common.{◌≡◌, refl, ap, subst, arith, ℕ, zero, suc, ◌+◌, ◌<◌, ◌≤◌, Bool, true, false, ◌||◌, ◌&&◌, not, nat_eq, List, [], ◌∷◌, drop, length, ◌++◌, if◌then◌else◌}
+use Rattle.std.proofs.Common.{◌≡◌, refl, ap, subst, arith, ℕ, zero, suc, ◌+◌, ◌<◌, ◌≤◌, Bool, true, false, ◌||◌, ◌&&◌, not}
+use Rattle.std.proofs.Common.{nat_eq, List, [], ◌∷◌, drop, length, ◌++◌, if◌then◌else◌}
 use Rattle.std.specs.Prelude.{slice_index_or}
 use Rattle.reg_alloc.specs.Check.{all_below}
 use Rattle.reg_alloc.specs.Marks.{Marks, either, below, alone_from}
@@ -15,17 +16,24 @@ drop_nil : (i : ℕ) → drop i no_marks ≡ no_marks
 drop_nil zero = refl
 drop_nil (suc i) = refl
 
-step_at : (i : ℕ) (a b : Marks) → i < length a → either (drop i a) (drop i b) ≡ (slice_index_or a i false || slice_index_or b i false) ∷ either (drop (suc i) a) (drop (suc i) b)
+step_at : (i : ℕ) (a b : Marks) → i < length a
+    → either (drop i a) (drop i b)
+    ≡ (slice_index_or a i false || slice_index_or b i false) ∷ either (drop (suc i) a) (drop (suc i) b)
 step_at i [] b h = absurd (omega arith)
 step_at zero (x ∷ a) [] h = ap (λ y. y ∷ either a []) (or_false x)
 step_at zero (x ∷ a) (y ∷ b) h = refl
-step_at (suc i) (x ∷ a) [] h = subst (λ (z : Marks). either (drop i a) z ≡ (slice_index_or a i false || false) ∷ either (drop (suc i) a) []) (drop_nil i) (step_at i a [] (omega arith))
+step_at (suc i) (x ∷ a) [] h =
+    subst (λ (z : Marks). either (drop i a) z ≡ (slice_index_or a i false || false) ∷ either (drop (suc i) a) []) (drop_nil i)
+    (step_at i a [] (omega arith))
 step_at (suc i) (x ∷ a) (y ∷ b) h = step_at i a b (omega arith)
 
-pub either_step : (i : ℕ) (a b : Marks) → i < length a → either (drop i a) (drop i b) ≡ (slice_index_or a i false || slice_index_or b i false) ∷ either (drop (i + 1) a) (drop (i + 1) b)
+pub either_step : (i : ℕ) (a b : Marks) → i < length a
+    → either (drop i a) (drop i b)
+    ≡ (slice_index_or a i false || slice_index_or b i false) ∷ either (drop (i + 1) a) (drop (i + 1) b)
 either_step i a b h =
     let e : suc i ≡ i + 1 = omega arith in
-    subst (λ n. either (drop i a) (drop i b) ≡ (slice_index_or a i false || slice_index_or b i false) ∷ either (drop n a) (drop n b)) e (step_at i a b h)
+    subst (λ n. either (drop i a) (drop i b)
+    ≡ (slice_index_or a i false || slice_index_or b i false) ∷ either (drop n a) (drop n b)) e (step_at i a b h)
 
 pub either_done : (i : ℕ) (a b : Marks) → length a ≤ i → either (drop i a) (drop i b) ≡ []
 either_done i [] b h = nothing i b
@@ -42,23 +50,27 @@ below_next n test = let e : n + 1 ≡ suc n = omega arith in ap (λ k. below k t
 
 alone_at : (q x k i : ℕ) (ps : List ℕ) (l : Marks) → i < length ps
     → alone_from q x k (drop i ps) (drop i l)
-    ≡ ((not (slice_index_or l i false && nat_eq (slice_index_or ps i 0) q) || nat_eq k x) && alone_from q x (k + 1) (drop (suc i) ps) (drop (suc i) l))
+    ≡ ((not (slice_index_or l i false && nat_eq (slice_index_or ps i 0) q) || nat_eq k x)
+    && alone_from q x (k + 1) (drop (suc i) ps) (drop (suc i) l))
 alone_at q x k i [] l h = absurd (omega arith)
 alone_at q x k zero (p ∷ []) [] h = refl
 alone_at q x k zero (p ∷ r ∷ ps) [] h = refl
 alone_at q x k zero (p ∷ ps) (b ∷ l) h = refl
 alone_at q x k (suc i) (p ∷ ps) [] h =
-    subst (λ (z : Marks). alone_from q x k (drop i ps) z ≡ ((not (false && nat_eq (slice_index_or ps i 0) q) || nat_eq k x) && alone_from q x (k + 1) (drop (suc i) ps) []))
+    subst (λ (z : Marks). alone_from q x k (drop i ps) z
+    ≡ ((not (false && nat_eq (slice_index_or ps i 0) q) || nat_eq k x) && alone_from q x (k + 1) (drop (suc i) ps) []))
     (drop_nil i) (alone_at q x k i ps [] (omega arith))
 alone_at q x k (suc i) (p ∷ ps) (b ∷ l) h = alone_at q x k i ps l (omega arith)
 
 pub alone_step : (q x i : ℕ) (ps : List ℕ) (l : Marks) → i < length ps
     → alone_from q x i (drop i ps) (drop i l)
-    ≡ ((not (slice_index_or l i false && nat_eq (slice_index_or ps i 0) q) || nat_eq i x) && alone_from q x (i + 1) (drop (i + 1) ps) (drop (i + 1) l))
+    ≡ ((not (slice_index_or l i false && nat_eq (slice_index_or ps i 0) q) || nat_eq i x)
+    && alone_from q x (i + 1) (drop (i + 1) ps) (drop (i + 1) l))
 alone_step q x i ps l h =
     let e : suc i ≡ i + 1 = omega arith in
     subst (λ n. alone_from q x i (drop i ps) (drop i l)
-    ≡ ((not (slice_index_or l i false && nat_eq (slice_index_or ps i 0) q) || nat_eq i x) && alone_from q x (i + 1) (drop n ps) (drop n l))) e (alone_at q x i i ps l h)
+    ≡ ((not (slice_index_or l i false && nat_eq (slice_index_or ps i 0) q) || nat_eq i x)
+    && alone_from q x (i + 1) (drop n ps) (drop n l))) e (alone_at q x i i ps l h)
 
 done_at : (q x k i : ℕ) (ps : List ℕ) (l : Marks) → length ps ≤ i → alone_from q x k (drop i ps) l ≡ true
 done_at q x k zero [] l h = refl

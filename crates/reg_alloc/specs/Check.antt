@@ -1,5 +1,6 @@
 -- What the calls compute, from the end of a code to its start.
-use Rattle.std.specs.Prelude.{ℕ, zero, suc, ◌+◌, Bool, true, false, not, ◌&&◌, ◌||◌, nat_eq, nat_lt, List, [], ◌∷◌, map, length, reverse, replicate, slice_index_or, None}
+use Rattle.std.specs.Prelude.{ℕ, zero, suc, ◌+◌, Bool, true, false, not, ◌&&◌, ◌||◌, nat_eq, nat_lt, List, [], ◌∷◌, map, length}
+use Rattle.std.specs.Prelude.{reverse, replicate, slice_index_or, None}
 use Rattle.rup_base.specs.Gather.{all_true}
 use Rattle.flat_lang.specs.declared.flat.Flat.{Flat}
 use Rattle.reg_alloc.specs.declared.plan.Plan.{Plan}
@@ -46,7 +47,8 @@ code_fits flat places = fits_to_start flat.args (at_start flat) ((code_visit fla
 
 abbrev pub plan_fits : Flat → Plan → Bool
 plan_fits flat plan =
-    (nat_eq (length plan.places) flat.vars && all_true (map (is_place flat.vars) plan.places)) && code_fits flat (map number plan.places)
+    (nat_eq (length plan.places) flat.vars && all_true (map (is_place flat.vars) plan.places))
+    && code_fits flat (map number plan.places)
 
 abbrev pub lists_of : Watch → List (List ℕ)
 lists_of (Places places fit) = []

@@ -41,9 +41,12 @@ Starts flat plan vars places = (x n : ℕ) → LiveAtStart flat x → get vars x
 -- The same fuel is left, at the same ticks, with the same memory, and each result that is set is in its place.
 pub record Ends (w : Weights) (flat : Flat) (plan : Plan) (s : State) (places : Vars) (t : State) : Type 0 where
   pub places_after : Vars
-  pub runs : run_all w flat.tables (placed flat plan) (state s.fuel s.ticks s.mem places) ≡ Ok (state t.fuel t.ticks t.mem places_after)
-  pub results : (i r n : ℕ) → slice_get flat.rets i ≡ Some r → get t.vars r ≡ Some n → get places_after (place_number plan r) ≡ Some n
+  pub runs : run_all w flat.tables (placed flat plan) (state s.fuel s.ticks s.mem places)
+      ≡ Ok (state t.fuel t.ticks t.mem places_after)
+  pub results : (i r n : ℕ) → slice_get flat.rets i ≡ Some r → get t.vars r ≡ Some n → get places_after (place_number plan r)
+      ≡ Some n
 
 abbrev pub PlacesKeep : Type 0
-PlacesKeep = (flat : Flat) (plan : Plan) → PlanOk flat plan → (w : Weights) (s t : State) (places : Vars) → Starts flat plan s.vars places
+PlacesKeep = (flat : Flat) (plan : Plan) → PlanOk flat plan → (w : Weights) (s t : State) (places : Vars)
+    → Starts flat plan s.vars places
     → run_all w flat.tables flat.body s ≡ Ok t → Ends w flat plan s places t

@@ -1,5 +1,6 @@
 -- Sets of variables, as lists with a truth for each variable.
-use Rattle.std.specs.Prelude.{ℕ, zero, suc, ◌+◌, ◌++◌, Bool, true, false, not, ◌&&◌, ◌||◌, nat_eq, List, [], ◌∷◌, length, replicate, slice_index_or, if◌then◌else◌}
+use Rattle.std.specs.Prelude.{ℕ, zero, suc, ◌+◌, ◌++◌, Bool, true, false, not, ◌&&◌, ◌||◌, nat_eq, List, [], ◌∷◌, length}
+use Rattle.std.specs.Prelude.{replicate, slice_index_or, if◌then◌else◌}
 
 abbrev pub Marks : Type 0
 Marks = List Bool

@@ -1,5 +1,6 @@
 -- Which plans serve a code: of no two variables that are needed at once does one overwrite the other.
-use Rattle.std.specs.Prelude.{◌≡◌, ℕ, suc, ◌<◌, Bool, true, false, ◌&&◌, ◌||◌, nat_eq, nat_lt, nat_le, List, map, length, Some, slice_get}
+use Rattle.std.specs.Prelude.{◌≡◌, ℕ, suc, ◌<◌, Bool, true, false, ◌&&◌, ◌||◌, nat_eq, nat_lt, nat_le, List, map, length, Some}
+use Rattle.std.specs.Prelude.{slice_get}
 use Rattle.std.specs.List.{AllByRecursion}
 use Rattle.rup_base.specs.Gather.{all_true}
 use Rattle.flat_lang.specs.declared.flat.Flat.{Flat}
@@ -26,4 +27,5 @@ pub record PlanOk (flat : Flat) (plan : Plan) : Type 0 where
   pub one_each : length plan.places ≡ flat.vars
   pub places : all_true (map (is_place flat.vars) plan.places) ≡ true
   pub writes : (n : ℕ) → AllByRecursion (Clear plan.places) (flat_steps (suc n) flat)
-  pub arguments : (u v : ℕ) → u < flat.args → v < flat.args → LiveAtStart flat u → LiveAtStart flat v → (u ≡ v → ⊥) → Share plan.places u v → ⊥
+  pub arguments : (u v : ℕ) → u < flat.args → v < flat.args → LiveAtStart flat u → LiveAtStart flat v → (u ≡ v → ⊥)
+      → Share plan.places u v → ⊥

@@ -1,5 +1,6 @@
 -- The places in the order in which they are taken, and the plan in which each variable has a place of its own.
-use Rattle.std.specs.Prelude.{◌≡◌, ℕ, zero, suc, ◌+◌, ◌-◌, min, nat_lt, List, [], ◌∷◌, ◌++◌, Option, Some, None, slice_get, if◌then◌else◌}
+use Rattle.std.specs.Prelude.{◌≡◌, ℕ, zero, suc, ◌+◌, ◌-◌, min, nat_lt, List, [], ◌∷◌, ◌++◌, Option, Some, None, slice_get}
+use Rattle.std.specs.Prelude.{if◌then◌else◌}
 use Rattle.reg_alloc.specs.declared.plan.At.{At}
 use Rattle.reg_alloc.specs.declared.plan.At.TheVariants.{Reg, Slot}
 use Rattle.reg_alloc.specs.declared.plan.Plan.{Plan}
@@ -7,7 +8,8 @@ use Rattle.reg_alloc.specs.declared.plan.Plan.{Plan}
 -- the sixteen registers: first t3 to t6, which are 28 to 31 and need not be kept for the caller, then s2 to s11, which are 18
 -- to 27, and s0 and s1, which are 8 and 9; the slots follow
 abbrev pub own_place : ℕ → At
-own_place v = if nat_lt v 4 then Reg (28 + v) else (if nat_lt v 14 then Reg (14 + v) else (if nat_lt v 16 then Reg (v - 6) else Slot (v - 16)))
+own_place v = if nat_lt v 4 then Reg (28 + v)
+    else (if nat_lt v 14 then Reg (14 + v) else (if nat_lt v 16 then Reg (v - 6) else Slot (v - 16)))
 
 abbrev pub own_places : ℕ → List At
 own_places zero = []

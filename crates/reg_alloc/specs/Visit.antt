@@ -59,7 +59,8 @@ visit_step (f.If x a b) = record {
 }
 visit_step (f.While a x b) = record {
   back = λ set. head (visits a) x (visits b) set;
-  note = λ set watch. seen None set ((visits a).note (at_test (visits a) x (visits b) set) ((visits b).note (head (visits a) x (visits b) set) watch));
+  note = λ set watch. seen None set
+      ((visits a).note (at_test (visits a) x (visits b) set) ((visits b).note (head (visits a) x (visits b) set) watch));
 }
 
 abbrev pub visit : FStmt → Visit

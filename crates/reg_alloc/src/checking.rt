@@ -2,7 +2,8 @@
 ghost use Rattle.std.specs.Prelude.{◌≡◌, ◌≤◌, ◌↔◌, ℕ, suc, true, map, reverse, IfOk};
 ghost use Rattle.flat_lang.specs.Paths.{flat_ways};
 ghost use Rattle.rup_base.specs.Gather.{all_true};
-ghost use Rattle.reg_alloc.specs.Check.{marked, at_end, at_start, front_from, arguments_fit, fits_to_start, code_fits, lists_of, live_lists, plan_fits};
+ghost use Rattle.reg_alloc.specs.Check.{marked, at_end, at_start, front_from, arguments_fit, fits_to_start, code_fits, lists_of};
+ghost use Rattle.reg_alloc.specs.Check.{live_lists, plan_fits};
 ghost use Rattle.reg_alloc.specs.Kept.{number};
 ghost use Rattle.reg_alloc.specs.Liveness.{IsLiveness, read_first};
 ghost use Rattle.reg_alloc.specs.Marks.{listed};

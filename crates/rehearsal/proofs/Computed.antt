@@ -1,5 +1,6 @@
 -- The command computes the model.
-use Rattle.std.proofs.Common.{◌≡◌, refl, sym, ◌∙◌, ap, subst, arith, ℕ, zero, suc, ◌+◌, ◌*◌, ◌%◌, ◌^◌, ◌<◌, ◌≤◌, nat_lt, true, List, [], ◌∷◌, length, get_or, Option, Some, Ok, Err, slice_get, slice_set}
+use Rattle.std.proofs.Common.{◌≡◌, refl, sym, ◌∙◌, ap, subst, arith, ℕ, zero, suc, ◌+◌, ◌*◌, ◌%◌, ◌^◌, ◌<◌, ◌≤◌, nat_lt, true}
+use Rattle.std.proofs.Common.{List, [], ◌∷◌, length, get_or, Option, Some, Ok, Err, slice_get, slice_set}
 use Rattle.std.specs.FinMap.{get}
 use Rattle.std.proofs.lemmas.Bool.{lt-ltb}
 use Rattle.rup_base.specs.declared.arg.Arg.{Arg}
@@ -54,7 +55,8 @@ entry_found (suc (suc (suc (suc r)))) few = absurd (omega (arith, few))
 
 -- The results of the model at an array.
 
-results_are : (x : ℕ) (xs : List ℕ) → results model (arg.Bytes (x ∷ xs) ∷ []) ≡ arg.Word x ∷ arg.Word (get_or entries (x % 4) 0) ∷ []
+results_are : (x : ℕ) (xs : List ℕ) → results model (arg.Bytes (x ∷ xs) ∷ [])
+    ≡ arg.Word x ∷ arg.Word (get_or entries (x % 4) 0) ∷ []
 results_are x xs =
     rw (at_x Turn run_step, at_y Turn run_step, at_first (Env → ℕ) eval_step, at_looked_up (Env → ℕ) eval_step) refl
 

@@ -1,6 +1,7 @@
 -- The numbers beside the command are its own, and it passes no limit.
 use Rattle.std.proofs.Common.{◌≡◌, refl, arith, ℕ, List, [], ◌∷◌}
-use Rattle.bed_syntax.specs.Shape.{expr_size_step, cmd_size, cmd_size_step, expr_depth_step, cmd_depth_step, expr_locals_step, cmd_locals, cmd_locals_step, noted}
+use Rattle.bed_syntax.specs.Shape.{expr_size_step, cmd_size, cmd_size_step, expr_depth_step, cmd_depth_step, expr_locals_step}
+use Rattle.bed_syntax.specs.Shape.{cmd_locals, cmd_locals_step, noted}
 use Rattle.bed_syntax.specs.Tables.{expr_tables_step, cmd_tables, cmd_tables_step}
 use Rattle.bed_syntax.specs.Weight.{expr_weight, expr_weight_step, cmd_weight_step}
 use Rattle.bed_syntax.specs.declared.weights.Weights.{Weights}
@@ -20,7 +21,12 @@ entry_weight = at_entry ℕ (expr_weight_step w)
 
 pub locals_from : (xs : List ℕ) → cmd_locals body xs ≡ noted 6 (noted 0 (noted 3 (noted 0 xs)))
 locals_from xs =
-    rw (at_body (List ℕ → List ℕ) cmd_locals_step, at_entry (List ℕ → List ℕ) expr_locals_step, at_byte (List ℕ → List ℕ) expr_locals_step) refl
+    rw (
+      at_body (List ℕ → List ℕ) cmd_locals_step,
+      at_entry (List ℕ → List ℕ) expr_locals_step,
+      at_byte (List ℕ → List ℕ)
+          expr_locals_step,
+    ) refl
 
 pub measured : IsMeasured w model command
 measured = record {
@@ -46,4 +52,9 @@ small = record {
     nodes = rw (at_body ℕ cmd_size_step, at_entry ℕ expr_size_step, at_byte ℕ expr_size_step) refl
 
     tables : cmd_tables body ≡ table ∷ []
-    tables = rw (at_body (List (List ℕ)) cmd_tables_step, at_entry (List (List ℕ)) expr_tables_step, at_byte (List (List ℕ)) expr_tables_step) refl
+    tables = rw (
+      at_body (List (List ℕ)) cmd_tables_step,
+      at_entry (List (List ℕ)) expr_tables_step,
+      at_byte (List (List ℕ))
+          expr_tables_step,
+    ) refl

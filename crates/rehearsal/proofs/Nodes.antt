@@ -34,13 +34,17 @@ module _ (A : Type 0) (step : Expr-F A → A) where
   at_var : (x : Name) → fold-Expr A step (expr.Var x) ≡ step (e.Var x)
   at_var x = ap (fold-Expr A step) (sym (expr.rolls-Var x)) ∙ fold-roll-Expr A step (e.Var x)
 
-  at_table : (p : Expr) → fold-Expr A step (expr.Tab scalar.Word entries p) ≡ step (e.Tab scalar.Word entries (fold-Expr A step p))
-  at_table p = ap (fold-Expr A step) (sym (expr.rolls-Tab scalar.Word entries p)) ∙ fold-roll-Expr A step (e.Tab scalar.Word entries p)
+  at_table : (p : Expr) → fold-Expr A step (expr.Tab scalar.Word entries p)
+      ≡ step (e.Tab scalar.Word entries (fold-Expr A step p))
+  at_table p = ap (fold-Expr A step) (sym (expr.rolls-Tab scalar.Word entries p))
+      ∙ fold-roll-Expr A step (e.Tab scalar.Word entries p)
 
   pub at_first : fold-Expr A step first_byte ≡ step (e.ToWord (step (e.Get (codes "s") (step (e.Lit 0)))))
-  at_first = terms.fold_to_word A step (expr.Get (codes "s") (expr.Lit 0)) ∙ rw (at_get (codes "s") (expr.Lit 0), terms.fold_lit A step 0) refl
+  at_first = terms.fold_to_word A step (expr.Get (codes "s") (expr.Lit 0))
+      ∙ rw (at_get (codes "s") (expr.Lit 0), terms.fold_lit A step 0) refl
 
-  pub at_looked_up : fold-Expr A step looked_up ≡ step (e.Tab scalar.Word entries (step (e.Bin op.Remu (step (e.Var (codes "x"))) (step (e.Lit 4)))))
+  pub at_looked_up : fold-Expr A step looked_up
+      ≡ step (e.Tab scalar.Word entries (step (e.Bin op.Remu (step (e.Var (codes "x"))) (step (e.Lit 4)))))
   at_looked_up =
       at_table (expr.Bin op.Remu (expr.Var (codes "x")) (expr.Lit 4))
       ∙ rw (terms.fold_bin A step op.Remu (expr.Var (codes "x")) (expr.Lit 4), at_var (codes "x"), terms.fold_lit A step 4) refl

@@ -41,7 +41,13 @@ formed =
 
 pub spellable : Spellable model
 spellable =
-    rw (at_x Bool stmt_spellable_step, at_y Bool stmt_spellable_step, at_first Bool expr_spellable_step, at_looked_up Bool expr_spellable_step) refl
+    rw (
+      at_x Bool stmt_spellable_step,
+      at_y Bool stmt_spellable_step,
+      at_first Bool expr_spellable_step,
+      at_looked_up Bool
+          expr_spellable_step,
+    ) refl
 
 pub within : Within model
 within = record {
@@ -56,7 +62,13 @@ within = record {
 
     depth : limits.depth model ≡ 3
     depth =
-        rw (at_x ℕ limits.stmt_depth_step, at_y ℕ limits.stmt_depth_step, at_first ℕ limits.expr_depth_step, at_looked_up ℕ limits.expr_depth_step) refl
+        rw (
+          at_x ℕ limits.stmt_depth_step,
+          at_y ℕ limits.stmt_depth_step,
+          at_first ℕ limits.expr_depth_step,
+          at_looked_up ℕ
+              limits.expr_depth_step,
+        ) refl
 
     blocks : limits.blocks model ≡ 1
     blocks = rw (at_x ℕ limits.stmt_blocks_step, at_y ℕ limits.stmt_blocks_step) refl

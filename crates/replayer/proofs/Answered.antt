@@ -22,20 +22,24 @@ pub record Gave {A B : Type 0} (first : Rule A) (next : A → Rule B) (c : Conte
   pub first_is : first c ≡ Ok (given, after)
   pub next_is : next given after ≡ Ok end_
 
-pub rules_gave : {A B : Type 0} (first : Rule A) (next : A → Rule B) (c : Context) (end_ : B × Context) → (first >>= next) c ≡ Ok end_ → Gave first next c end_
+pub rules_gave : {A B : Type 0} (first : Rule A) (next : A → Rule B) (c : Context) (end_ : B × Context)
+    → (first >>= next) c ≡ Ok end_ → Gave first next c end_
 rules_gave {A} {B} first next c end_ is = by (first c) refl is where
   by : (r : Result (A × Context) Refusal) → first c ≡ r → and_then_with r next ≡ Ok end_ → Gave first next c end_
   by (Ok p) first_is next_is = record { given = p.0; after = p.1; first_is = first_is; next_is = next_is }
   by (Err refusal) first_is next_is = absurd (let bad : Err refusal ≡ Ok end_ = next_is in cc)
 
 -- a condition that was not refused holds, and leaves the context
-pub need_holds : (holds : Bool) (at cond : ℕ) (c : Context) (given : Unit {0}) (after : Context) → need holds at cond c ≡ Ok (given, after)
+pub need_holds : (holds : Bool) (at cond : ℕ) (c : Context) (given : Unit {0}) (after : Context)
+    → need holds at cond c ≡ Ok (given, after)
     → (holds ≡ true) × (c ≡ after)
-need_holds true at cond c given after is = (refl, let pair : (tt, c) ≡ (given, after) = cc in ap (λ (p : Unit {0} × Context). p.1) pair)
+need_holds true at cond c given after is =
+    (refl, let pair : (tt, c) ≡ (given, after) = cc in ap (λ (p : Unit {0} × Context). p.1) pair)
 need_holds false at cond c given after is = absurd (let bad : Err (NoInstance at cond) ≡ Ok (given, after) = is in cc)
 
 -- what holds of all that a rule can give
-pub yielded : {A : Type 0} (P : A → Context → Type 0) (r : Result (A × Context) Refusal) (p : A × Context) → Yields P r → r ≡ Ok p → P p.0 p.1
+pub yielded : {A : Type 0} (P : A → Context → Type 0) (r : Result (A × Context) Refusal) (p : A × Context) → Yields P r → r ≡ Ok p
+    → P p.0 p.1
 yielded P (Ok q) p holds is = let same_one : q ≡ p = cc in subst (λ z. P z.0 z.1) same_one holds
 yielded P (Err refusal) p holds is = absurd (let bad : Err refusal ≡ Ok p = is in cc)
 

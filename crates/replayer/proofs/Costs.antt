@@ -1,5 +1,7 @@
--- Commands cost at most the value of their bound, for whichever nodes it was made, where each trip form is over the entry symbols.
-use Rattle.std.proofs.Common.{◌≡◌, refl, sym, ◌∙◌, ap, subst, arith, ℕ, ◌+◌, ◌*◌, ◌≤◌, mul-le-mul, Bool, true, false, List, [], ◌∷◌, map, Option, Some, None, Result, Ok, Err, ℤ, pos, negsuc, ◌*ℤ◌, slice_index_or}
+-- Commands cost at most the value of their bound, for whichever nodes it
+-- was made, where each trip form is over the entry symbols.
+use Rattle.std.proofs.Common.{◌≡◌, refl, sym, ◌∙◌, ap, subst, arith, ℕ, ◌+◌, ◌*◌, ◌≤◌, mul-le-mul, Bool, true, false, List, []}
+use Rattle.std.proofs.Common.{◌∷◌, map, Option, Some, None, Result, Ok, Err, ℤ, pos, negsuc, ◌*ℤ◌, slice_index_or}
 use Rattle.std.specs.List.{list_all}
 use Rattle.std.proofs.lemmas.Int.{ints}
 use Rattle.rup_base.specs.Answers.{and_then, and_then_with}
@@ -23,7 +25,9 @@ use Rattle.bed_syntax.specs.declared.command.Cmd.{Cmd, Cmd-F, map-Cmd, roll-Cmd,
 use Rattle.bed_syntax.specs.declared.command.Cmd.TheOpen as c
 use Rattle.stmt_rules.specs.Bound.{Cost, cost, cost_step, cost_all, sides, loop, nat_of, trip_at}
 use Rattle.replayer.specs.Bounds as bounds
-use Rattle.replayer.specs.Bounds.{Poly, Trips, Made, Inside, Priced, sets_on, limited_at, sum_at, constant_of, constant_at, with_constant, turned, added, leaving, nodes_of, inside, others, gives, is_loop, plain, sets, begun, last_bound, behind, own, in_order, choice, priced_step, priced, whole, bound}
+use Rattle.replayer.specs.Bounds.{Poly, Trips, Made, Inside, Priced, sets_on, limited_at, sum_at, constant_of, constant_at}
+use Rattle.replayer.specs.Bounds.{with_constant, turned, added, leaving, nodes_of, inside, others, gives, is_loop, plain, sets}
+use Rattle.replayer.specs.Bounds.{begun, last_bound, behind, own, in_order, choice, priced_step, priced, whole, bound}
 use Rattle.replayer.proofs.Answered.{both_answered}
 
 -- each trip form is over the first entry symbols, with no negative number
@@ -77,11 +81,13 @@ module _ (w : Weights) (call : Call) (count : ℕ) (few : count ≤ 8) where
   -- Sums and products.
 
   constant_value : (node n : ℕ) (p : Poly) → constant_at node n ≡ Ok p → BoundFrom 0 count p × (value p ≡ n)
-  constant_value node n p is = let made = number_made count n p (number_ok node n (term None None n) p is) in (made.0, made.1 values)
+  constant_value node n p is = let made = number_made count n p (number_ok node n (term None None n) p is) in
+      (made.0, made.1 values)
 
   sum_value : (node : ℕ) (p q s : Poly) → BoundFrom 0 count p → BoundFrom 0 count q → sum_at node p q ≡ Ok s
       → BoundFrom 0 count s × (value s ≡ value p + value q)
-  sum_value node p q s one two is = let made = sum_made count p q s few one two (limited_ok node (poly.within (poly.sum p q)) s is) in (made.0, made.1 values)
+  sum_value node p q s one two is = let made =
+      sum_made count p q s few one two (limited_ok node (poly.within (poly.sum p q)) s is) in (made.0, made.1 values)
 
   with_value : (node n : ℕ) (p s : Poly) → BoundFrom 0 count p → with_constant node p n ≡ Ok s
       → BoundFrom 0 count s × (value s ≡ value p + n)
@@ -141,7 +147,8 @@ module _ (w : Weights) (call : Call) (count : ℕ) (few : count ≤ 8) where
       (all.0, omega (arith, all.1, before.1, less))
 
   -- a cost that leaves what it found
-  ended : (n : ℕ) (ts : Trips) (p : Poly) (left : Trips) → are_entries count ts ≡ true → ts ≡ left → BoundFrom 0 count p → n ≤ value p
+  ended : (n : ℕ) (ts : Trips) (p : Poly) (left : Trips) → are_entries count ts ≡ true → ts ≡ left → BoundFrom 0 count p
+      → n ≤ value p
       → Holds (0, ts) n p left
   ended n ts p left entries is over less = record {
     most = omega (arith, less);
@@ -151,7 +158,8 @@ module _ (w : Weights) (call : Call) (count : ℕ) (few : count ≤ 8) where
   }
 
   -- another cost and number that come to no more
-  instead : (k l : ℕ × Trips) (m n : ℕ) (p : Poly) (left : Trips) → Holds k m p left → n + l.0 ≤ m + k.0 → l.1 ≡ k.1 → Holds l n p left
+  instead : (k l : ℕ × Trips) (m n : ℕ) (p : Poly) (left : Trips) → Holds k m p left → n + l.0 ≤ m + k.0 → l.1 ≡ k.1
+      → Holds l n p left
   instead k l m n p left all less same_one = record {
     most = (let most = all.most in omega (arith, most, less));
     left_is = same_one ∙ all.left_is;
@@ -190,7 +198,8 @@ module _ (w : Weights) (call : Call) (count : ℕ) (few : count ≤ 8) where
           let here : own node (map (priced w) cs) (more + m) so_far ts ≡ Ok (p, left) = rw e at is in
           let all = rest node (more + m) n so_far ts p left holds entries here in
           let one : cost w call a ts ≡ (m, ts) = right.weight m e ts in
-          rw one (instead (cost_all w call cs ts) (m + (cost_all w call cs ts).0, (cost_all w call cs ts).1) (n + (more + m)) (n + more) p left
+          rw one (instead (cost_all w call cs ts) (m + (cost_all w call cs ts).0, (cost_all w call cs ts).1) (n + (more + m))
+          (n + more) p left
           all (omega arith) refl)
       by None e =
           let next : Poly → Trips → Made = λ q left. own node (map (priced w) cs) more (added node so_far q) left in
@@ -202,7 +211,8 @@ module _ (w : Weights) (call : Call) (count : ℕ) (few : count ≤ 8) where
           let all = rest node more (n + spent) (added node so_far step.value) step.state p left
           (more_so_far node n spent so_far step.value holds one.over less) one.entries step.rest in
           let after : Trips → ℕ × Trips = cost_all w call cs in
-          rw one.left_is (instead (after step.state) (spent + (after step.state).0, (after step.state).1) (n + spent + more) (n + more) p left
+          rw one.left_is (instead (after step.state) (spent + (after step.state).0, (after step.state).1) (n + spent + more)
+          (n + more) p left
           all (omega arith) refl)
 
   own_right : (cs : List Cmd) → AreRight cs → OwnRight cs
@@ -246,7 +256,8 @@ module _ (w : Weights) (call : Call) (count : ℕ) (few : count ≤ 8) where
     held = m + more.held;
     rest = more.rest;
     right = more.right;
-    is = (let here : before + m + more.held ≡ before + (m + more.held) = omega arith in more.is ∙ ap (λ (n : ℕ). (n, map (priced w) more.rest)) here);
+    is = (let here : before + m + more.held ≡ before + (m + more.held) = omega arith in
+        more.is ∙ ap (λ (n : ℕ). (n, map (priced w) more.rest)) here);
     spent = λ ts. rw (costs ts) (let rest = more.spent ts in omega (arith, rest));
     left = λ ts. rw (costs ts) (more.left ts);
   }
@@ -257,10 +268,12 @@ module _ (w : Weights) (call : Call) (count : ℕ) (few : count ≤ 8) where
     by : ((m : ℕ) → Held cs m (sets (map (priced w) cs) m)) → (o : Option ℕ) → (priced w a).weight ≡ o
         → Held (a ∷ cs) before (sets_on (priced w a).weight (sets (map (priced w) cs)) (map (priced w) (a ∷ cs)) before)
     by rest (Some m) e =
-        subst (λ (o : Option ℕ). Held (a ∷ cs) before (sets_on o (sets (map (priced w) cs)) (map (priced w) (a ∷ cs)) before)) (sym e)
+        subst (λ (o : Option ℕ). Held (a ∷ cs) before (sets_on o (sets (map (priced w) cs)) (map (priced w) (a ∷ cs)) before))
+        (sym e)
         (held_more a cs before m (sets (map (priced w) cs) (before + m)) (right.0.weight m e) (rest (before + m)))
     by rest None e =
-        subst (λ (o : Option ℕ). Held (a ∷ cs) before (sets_on o (sets (map (priced w) cs)) (map (priced w) (a ∷ cs)) before)) (sym e) (held_none (a ∷ cs) right before)
+        subst (λ (o : Option ℕ). Held (a ∷ cs) before (sets_on o (sets (map (priced w) cs)) (map (priced w) (a ∷ cs)) before))
+        (sym e) (held_none (a ∷ cs) right before)
 
   begun_taken : (r : deriv.Rule) (cs : List Cmd) → AreRight cs → Taken cs (begun r (map (priced w) cs))
   begun_taken r cs right = by (is_loop r) refl where
@@ -268,7 +281,8 @@ module _ (w : Weights) (call : Call) (count : ℕ) (few : count ≤ 8) where
     by true e =
         let all = sets_held cs right 0 in
         let same_one : 0 + all.held ≡ all.held = omega arith in
-        let is : sets (map (priced w) cs) 0 ≡ (all.held, map (priced w) all.rest) = all.is ∙ ap (λ (n : ℕ). (n, map (priced w) all.rest)) same_one in
+        let is : sets (map (priced w) cs) 0 ≡ (all.held, map (priced w) all.rest) =
+        all.is ∙ ap (λ (n : ℕ). (n, map (priced w) all.rest)) same_one in
         rw e (record { held = all.held; rest = all.rest; right = all.right; is = is; spent = all.spent; left = all.left })
     by false e = rw e (taken_none cs right)
 
@@ -303,7 +317,8 @@ module _ (w : Weights) (call : Call) (count : ℕ) (few : count ≤ 8) where
     where
       by : (rest : List Cmd) → AreRight rest → (cost_all w call cs ts).0 ≡ had.held + (cost_all w call rest ts).0
           → (cost_all w call cs ts).1 ≡ (cost_all w call rest ts).1
-          → last_bound node within (had.held, map (priced w) rest) ts ≡ Ok (q, state) → Next cs ts q state (behind (map (priced w) rest))
+          → last_bound node within (had.held, map (priced w) rest) ts ≡ Ok (q, state)
+          → Next cs ts q state (behind (map (priced w) rest))
       by [] right spent left is =
           let all = nothing_holds node had.held ts q state entries is in
           record {
@@ -320,7 +335,8 @@ module _ (w : Weights) (call : Call) (count : ℕ) (few : count ≤ 8) where
       by (a ∷ rest) right spent left is =
           let all = right.0.bound node had.held within ts q state entries is in
           let after : (cost w call a ts).1 ≡ state = all.left_is in
-          let costs : (cost_all w call rest (cost w call a ts).1).0 ≡ (cost_all w call rest state).0 = ap (λ z. (cost_all w call rest z).0) after in
+          let costs : (cost_all w call rest (cost w call a ts).1).0
+          ≡ (cost_all w call rest state).0 = ap (λ z. (cost_all w call rest z).0) after in
           record {
             spent = had.held + (cost w call a ts).0;
             rest = rest;
@@ -337,7 +353,8 @@ module _ (w : Weights) (call : Call) (count : ℕ) (few : count ≤ 8) where
   next_sums : (ns : List StmtNode) → Sums ns → (cs : List Cmd) (taken : ℕ × List Priced) → Taken cs taken
       → (node more at_node after n : ℕ) (within : Inside) (so_far : Result Poly Refusal) (ts : Trips) (p : Poly) (left : Trips)
       → SoFar so_far n → are_entries count ts ≡ true
-      → and_then_with (last_bound at_node within taken ts) (λ q state. in_order node more after ns (behind taken.1) (added node so_far q) state)
+      → and_then_with (last_bound at_node within taken ts)
+      (λ q state. in_order node more after ns (behind taken.1) (added node so_far q) state)
       ≡ Ok (p, left)
       → Holds (cost_all w call cs ts) (n + more) p left
   next_sums ns rest cs taken had node more at_node after n within so_far ts p left holds entries is =
@@ -345,7 +362,8 @@ module _ (w : Weights) (call : Call) (count : ℕ) (few : count ≤ 8) where
       let step = went (last_bound at_node within taken ts) next (p, left) is in
       let one = next_of cs taken had at_node within ts step.value step.state entries step.first in
       let here : in_order node more after ns (map (priced w) one.rest) (added node so_far step.value) step.state ≡ Ok (p, left) =
-      subst (λ (l : List Priced). in_order node more after ns l (added node so_far step.value) step.state ≡ Ok (p, left)) one.is step.rest in
+      subst (λ (l : List Priced). in_order node more after ns l (added node so_far step.value) step.state ≡ Ok (p, left)) one.is
+      step.rest in
       let all = rest one.rest one.right node more after (n + one.spent) (added node so_far step.value) step.state p left
       (more_so_far node n one.spent so_far step.value holds one.over one.less) one.entries here in
       instead (cost_all w call one.rest step.state) (cost_all w call cs ts) (n + one.spent + more) (n + more) p left
@@ -358,7 +376,8 @@ module _ (w : Weights) (call : Call) (count : ℕ) (few : count ≤ 8) where
     where
       by : Sums ns → (b : Bool) → gives (out-StmtNode d).step.rule ≡ b → Holds (cost_all w call cs ts) (n + more) p left
       by rest true e =
-          next_sums ns rest cs (begun (out-StmtNode d).step.rule (map (priced w) cs)) (begun_taken (out-StmtNode d).step.rule cs right)
+          next_sums ns rest cs (begun (out-StmtNode d).step.rule (map (priced w) cs))
+          (begun_taken (out-StmtNode d).step.rule cs right)
           node more k (k + stmt_size d) n (inside k d) so_far ts p left holds entries (rw e at is)
       by rest false e =
           let here : in_order node more (k + stmt_size d) ns (map (priced w) cs) so_far ts ≡ Ok (p, left) = rw e at is in
@@ -416,7 +435,8 @@ module _ (w : Weights) (call : Call) (count : ℕ) (few : count ≤ 8) where
       subst (λ (z : Poly). BoundFrom 0 count z × (0 ≤ value z)) same_one (tt, omega arith)
 
   seq_right : (cs : List Cmd) → AreRight cs
-      → Bounds (cost_all w call cs) (λ node more within ts. in_order node more within.0 (nodes_of within.1) (map (priced w) cs) (Ok []) ts)
+      → Bounds (cost_all w call cs) (λ node more within ts. in_order node more within.0 (nodes_of within.1) (map (priced w) cs)
+      (Ok []) ts)
   seq_right cs right node more within ts p left entries is =
       let all = sums (nodes_of within.1) cs right node more within.0 0 (Ok []) ts p left none_yet entries is in
       instead (cost_all w call cs ts) (cost_all w call cs ts) (0 + more) more p left all (omega arith) refl
@@ -467,5 +487,6 @@ module _ (w : Weights) (call : Call) (count : ℕ) (few : count ≤ 8) where
       let first : Result Poly Refusal = constant_at (size d) w.entry in
       let entry : SoFar first w.entry =
       λ s at. (let number = constant_value (size d) w.entry s at in (number.0, omega (arith, number.1))) in
-      let all = sums (out-Block d.body).nodes cs (are_right cs) (size d) 0 0 w.entry first ts made.0.0 made.0.1 entry entries made.1.0 in
+      let all = sums (out-Block d.body).nodes cs (are_right cs) (size d) 0 0 w.entry first ts made.0.0 made.0.1 entry entries
+      made.1.0 in
       rw (← same_one) (all.over, (let most = all.most in omega (arith, most)))

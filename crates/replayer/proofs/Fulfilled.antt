@@ -1,5 +1,6 @@
 -- What an accepted derivation comes to computes the model, is measured and small.
-use Rattle.std.proofs.Common.{◌≡◌, refl, sym, ◌∙◌, ap, subst, arith, ℕ, ◌+◌, ◌*◌, ◌<◌, ◌≤◌, nat_le, Bool, true, false, List, [], length, map, sum, Result, Ok, Err, IfOk, if◌then◌else◌}
+use Rattle.std.proofs.Common.{◌≡◌, refl, sym, ◌∙◌, ap, subst, arith, ℕ, ◌+◌, ◌*◌, ◌<◌, ◌≤◌, nat_le, Bool, true, false, List, []}
+use Rattle.std.proofs.Common.{length, map, sum, Result, Ok, Err, IfOk, if◌then◌else◌}
 use Rattle.std.proofs.lemmas.Bool.{leb-true}
 use Rattle.rup_base.specs.Answers.{Answers}
 use Rattle.rup_base.specs.declared.fail.Fail.{Fail}
@@ -50,7 +51,8 @@ use Rattle.model_command.specs.Computes.{Computes, Starts, Ends}
 use Rattle.model_command.specs.Measures.{IsMeasured, IsSmall}
 use Rattle.replayer.specs.declared.checked.Checked.{Checked}
 use Rattle.replayer.specs.Ends.{are_named, are_kept}
-use Rattle.replayer.specs.Replayed.{ask, instance, command_of, weight_of, measured, most_slots, few_slots, sized, slots_of, checked, limited, replayed}
+use Rattle.replayer.specs.Replayed.{ask, instance, command_of, weight_of, measured, most_slots, few_slots, sized, slots_of}
+use Rattle.replayer.specs.Replayed.{checked, limited, replayed}
 use Rattle.replayer.specs.Bounds.{Poly, bound}
 use Rattle.replayer.proofs.Answered.{both_answered, rules_gave, need_holds, yielded, if_answered}
 use Rattle.replayer.proofs.Costs.{are_entries, bound_above}
@@ -70,7 +72,8 @@ pub record Derived (turn : Turn) (m : Model) (d : Derivation) (out : StmtOut) (a
   pub named : are_named m.params m.rets after ≡ true
   pub kept : are_kept m.params m.rets after ≡ true
 
-pub derived : (turn : Turn) (m : Model) (d : Derivation) (out : StmtOut) (after : Context) → instance turn m d (start m) ≡ Ok (out, after) → Derived turn m d out after
+pub derived : (turn : Turn) (m : Model) (d : Derivation) (out : StmtOut) (after : Context)
+    → instance turn m d (start m) ≡ Ok (out, after) → Derived turn m d out after
 derived turn m d out after is =
     let one = rules_gave (need (same d.model m.name) 0 0) _ (start m) (out, after) is in
     let name = need_holds (same d.model m.name) 0 0 (start m) one.given one.after one.first_is in
@@ -85,7 +88,8 @@ derived turn m d out after is =
     let after_is : four.after ≡ after = ap (λ (p : StmtOut × Context). p.1) pair in
     let here : two.after ≡ after = named.1 ∙ kept.1 ∙ after_is in
     record {
-      row = ap ((block_judged turn d.body).row 0 (size d) 4 m.body) name.1 ∙ two.first_is ∙ ap (λ o. Ok (o, two.after)) out_is ∙ ap (λ a. Ok (out, a)) here;
+      row = ap ((block_judged turn d.body).row 0 (size d) 4 m.body) name.1 ∙ two.first_is ∙ ap (λ o. Ok (o, two.after)) out_is
+          ∙ ap (λ a. Ok (out, a)) here;
       named = sym (ap (are_named m.params m.rets) here) ∙ named.0;
       kept = sym (ap (are_kept m.params m.rets) (kept.1 ∙ after_is)) ∙ kept.0;
     }
@@ -96,13 +100,15 @@ few_enough : (n : ℕ) (u : Unit {0}) → few_slots n ≡ Ok u → n ≤ 400
 few_enough n u is = by (nat_le n most_slots) refl is where
   by : (b : Bool) → nat_le n most_slots ≡ b → few_slots n ≡ Ok u → n ≤ 400
   by true few is = leb-true n most_slots few
-  by false few is = absurd (let bad : (if false then Ok tt else Err (OverSlots n)) ≡ Ok u = rw few at is in let worse : Err (OverSlots n) ≡ Ok u = bad in cc)
+  by false few is = absurd (let bad : (if false then Ok tt else Err (OverSlots n)) ≡ Ok u = rw few at is in
+      let worse : Err (OverSlots n) ≡ Ok u = bad in cc)
 
 small_enough : (weight most : ℕ) (u : Unit {0}) → sized weight most ≡ Ok u → 4 * weight ≤ most
 small_enough weight most u is = by (nat_le (4 * weight) most) refl is where
   by : (b : Bool) → nat_le (4 * weight) most ≡ b → sized weight most ≡ Ok u → 4 * weight ≤ most
   by true few is = leb-true (4 * weight) most few
-  by false few is = absurd (let bad : (if false then Ok tt else Err (OverSize (4 * weight))) ≡ Ok u = rw few at is in let worse : Err (OverSize (4 * weight)) ≡ Ok u = bad in cc)
+  by false few is = absurd (let bad : (if false then Ok tt else Err (OverSize (4 * weight))) ≡ Ok u = rw few at is in
+      let worse : Err (OverSize (4 * weight)) ≡ Ok u = bad in cc)
 
 -- what is within the limits
 pub record Limited (m : Model) (d : Derivation) (most : ℕ) (out : StmtOut) (after : Context) (answer : Checked) : Type 0 where
@@ -112,7 +118,8 @@ pub record Limited (m : Model) (d : Derivation) (most : ℕ) (out : StmtOut) (af
   pub light : 4 * weight_of out ≤ most
   pub is : checked m d out after most_steps ≡ answer
 
-within_limits : (m : Model) (d : Derivation) (most : ℕ) (out : StmtOut) (after : Context) (answer : Checked) → limited m d most out after ≡ Ok answer → Limited m d most out after answer
+within_limits : (m : Model) (d : Derivation) (most : ℕ) (out : StmtOut) (after : Context) (answer : Checked)
+    → limited m d most out after ≡ Ok answer → Limited m d most out after answer
 within_limits m d most out after answer is =
     let one = both_answered (few_slots (slots_of m out after)) _ answer is in
     let two = both_answered (bound w d out.cmds out.trips) _ answer one.1.1 in
@@ -143,7 +150,8 @@ body_formed m formed =
     let three = and_parts (facts_formed m.requires_) _ two.1 in
     (and_parts (all_true (map stmt_formed m.body)) (all_true (map ret_formed m.rets)) three.1).0
 
-module _ (m : Model) (well : types.Well m) (d : Derivation) (out : StmtOut) (after : Context) (most_steps : Poly) (bound_is : bound w d out.cmds out.trips ≡ Ok most_steps) where
+module _ (m : Model) (well : types.Well m) (d : Derivation) (out : StmtOut) (after : Context) (most_steps : Poly)
+    (bound_is : bound w d out.cmds out.trips ≡ Ok most_steps) where
   abbrev command : Cmd
   command = command_of out
 
@@ -152,7 +160,8 @@ module _ (m : Model) (well : types.Well m) (d : Derivation) (out : StmtOut) (aft
       → sum (map length (joined (map cmd_tables out.cmds))) ≤ 65536 → IsSmall (measured m out after most_steps)
   small_right most nodes most_few slots light few size tables bytes =
       let size_is : cmd_size command ≡ 1 + sum (map cmd_size out.cmds) = fold_seq ℕ cmd_size_step out.cmds in
-      let tables_are : cmd_tables command ≡ joined (map cmd_tables out.cmds) = fold_seq (List (List ℕ)) cmd_tables_step out.cmds in
+      let tables_are : cmd_tables command ≡ joined (map cmd_tables out.cmds) = fold_seq (List (List ℕ)) cmd_tables_step out.cmds
+      in
       record {
         size = omega (arith, size_is, size, few);
         tables = rw tables_are tables;
@@ -167,8 +176,10 @@ module _ (m : Model) (well : types.Well m) (d : Derivation) (out : StmtOut) (aft
   abbrev pub OverEntries : Type 0
   OverEntries = are_entries (length (entry_names m.params)) out.trips ≡ true
 
-  above : OverEntries → (call : Call) → BoundFrom 0 (length (entry_names m.params)) most_steps × ((cost_all w call out.cmds out.trips).0 + w.entry ≤ at call.entries most_steps)
-  above entries call = bound_above w call (length (entry_names m.params)) (few_entries m well) d out.cmds out.trips most_steps entries bound_is
+  above : OverEntries → (call : Call) → BoundFrom 0 (length (entry_names m.params)) most_steps
+      × ((cost_all w call out.cmds out.trips).0 + w.entry ≤ at call.entries most_steps)
+  above entries call = bound_above w call (length (entry_names m.params)) (few_entries m well) d out.cmds out.trips most_steps
+      entries bound_is
 
   pub measured_right : OverEntries → IsMeasured w m (measured m out after most_steps)
   measured_right entries = record {
@@ -179,72 +190,84 @@ module _ (m : Model) (well : types.Well m) (d : Derivation) (out : StmtOut) (aft
     symbols = (above entries (call_of m [] (λ n. n))).0;
   }
 
-  module _ (formed : model_formed m ≡ true) (done : IsConsistent (start m) → StmtDone m.params (parts_of m well).scope (parts_of m well).end_.1 (model.in_turn (map model.run m.body)) (start m) out after) (entries : OverEntries)
-      (named : are_named m.params m.rets after ≡ true) (kept : are_kept m.params m.rets after ≡ true) (starts_fit : StartFits) where
-    module _ (args : List Arg) (meets : model.Meets m args) (pointers : ℕ → ℕ) (mem : Bytes) (vars : Vars) (starts : Starts m command args pointers mem vars) where
-      abbrev call : Call
-      call = call_of m args pointers
+  module _ (formed : model_formed m ≡ true)
+      (done : IsConsistent (start m)
+      → StmtDone m.params (parts_of m well).scope (parts_of m well).end_.1 (model.in_turn (map model.run m.body)) (start m) out
+      after) (entries : OverEntries)
+      (named : are_named m.params m.rets after ≡ true) (kept : are_kept m.params m.rets after ≡ true) (starts_fit : StartFits)
+    where
+      module _ (args : List Arg) (meets : model.Meets m args) (pointers : ℕ → ℕ) (mem : Bytes) (vars : Vars)
+          (starts : Starts m command args pointers mem vars) where
+        abbrev call : Call
+        call = call_of m args pointers
 
-      abbrev env : Env
-      env = model.start m.params args []
+        abbrev env : Env
+        env = model.start m.params args []
 
-      fits : FitsBy call (numbers_of call) (start m) env mem (local_at vars)
-      fits = (starts_fit m well args meets pointers mem (local_at vars) starts.arguments starts.apart).0
+        fits : FitsBy call (numbers_of call) (start m) env mem (local_at vars)
+        fits = (starts_fit m well args meets pointers mem (local_at vars) starts.arguments starts.apart).0
 
-      sem : StmtDone m.params (parts_of m well).scope (parts_of m well).end_.1 (model.in_turn (map model.run m.body)) (start m) out after
-      sem = done fits.consistent
+        sem : StmtDone m.params (parts_of m well).scope (parts_of m well).end_.1 (model.in_turn (map model.run m.body)) (start m)
+            out after
+        sem = done fits.consistent
 
-      room : all_below (length vars) out.cmds ≡ true
-      room =
-          sym (fold_seq Bool (sets_below_step (length vars)) out.cmds)
-          ∙ has_room (length vars) command [] starts.room
+        room : all_below (length vars) out.cmds ≡ true
+        room =
+            sym (fold_seq Bool (sets_below_step (length vars)) out.cmds)
+            ∙ has_room (length vars) command [] starts.room
 
-      -- each parameter's name has a value of its type
-      values : (lengths : Name → ℕ) × IsTyped lengths (parts_of m well).scope env
-      values = starts_typed m args (parts_of m well).scope formed (parts_of m well).declared meets
+        -- each parameter's name has a value of its type
+        values : (lengths : Name → ℕ) × IsTyped lengths (parts_of m well).scope env
+        values = starts_typed m args (parts_of m well).scope formed (parts_of m well).declared meets
 
-      ran : StmtRan w call (model.in_turn (map model.run m.body)) (start m) out after (numbers_of call) env mem vars
-      ran = sem.runs values.0 w call (numbers_of call) env mem vars values.1 fits room
+        ran : StmtRan w call (model.in_turn (map model.run m.body)) (start m) out after (numbers_of call) env mem vars
+        ran = sem.runs values.0 w call (numbers_of call) env mem vars values.1 fits room
 
-      run : Runs w (One command) mem vars ran.left_mem ran.left ran.ticks
-      run =
-          subst (λ (p : Cmd). Runs w (One p) mem vars ran.left_mem ran.left ran.ticks) (cmd.rolls-Seq out.cmds)
-          (seqs out.cmds ran.ticks mem ran.left_mem vars ran.left ran.runs)
+        run : Runs w (One command) mem vars ran.left_mem ran.left ran.ticks
+        run =
+            subst (λ (p : Cmd). Runs w (One p) mem vars ran.left_mem ran.left ran.ticks) (cmd.rolls-Seq out.cmds)
+            (seqs out.cmds ran.ticks mem ran.left_mem vars ran.left ran.runs)
 
-      in_time : ran.ticks + w.entry ≤ at (entry_numbers m.params args) most_steps
-      in_time = (let time = ran.time in let most = (above entries call).1 in omega (arith, time, most))
+        in_time : ran.ticks + w.entry ≤ at (entry_numbers m.params args) most_steps
+        in_time = (let time = ran.time in let most = (above entries call).1 in omega (arith, time, most))
 
-      ends : Ends w m (measured m out after most_steps) args pointers mem vars
-      ends =
-          let fuel = fuel_of_run w command mem vars ran.left_mem ran.left ran.ticks run in
-          record {
-            fuel = fuel.0;
-            ticks = ran.ticks;
-            after_mem = ran.left_mem;
-            after_vars = ran.left;
-            runs = fuel.1 fuel.0 (omega arith);
-            in_time = in_time;
-            has_results = results_hold m.params (parts_of m well).scope (parts_of m well).end_.1 call ran.others after (model.end_of m args) ran.left_mem (local_at ran.left)
-                ran.fits sem.scoped 0 [] m.rets (parts_of m well).results named;
-            others = others_same m.params m.rets call (numbers_of call) ran.others (start m) after env (model.end_of m args) mem ran.left_mem (local_at vars) (local_at ran.left)
-                fits ran.fits sem.moves ran.unwritten kept ran.outside;
-          }
+        ends : Ends w m (measured m out after most_steps) args pointers mem vars
+        ends =
+            let fuel = fuel_of_run w command mem vars ran.left_mem ran.left ran.ticks run in
+            record {
+              fuel = fuel.0;
+              ticks = ran.ticks;
+              after_mem = ran.left_mem;
+              after_vars = ran.left;
+              runs = fuel.1 fuel.0 (omega arith);
+              in_time = in_time;
+              has_results = results_hold m.params (parts_of m well).scope (parts_of m well).end_.1 call ran.others after
+                  (model.end_of m args) ran.left_mem (local_at ran.left)
+                  ran.fits sem.scoped 0 [] m.rets (parts_of m well).results named;
+              others = others_same m.params m.rets call (numbers_of call) ran.others (start m) after env (model.end_of m args) mem
+                  ran.left_mem (local_at vars) (local_at ran.left)
+                  fits ran.fits sem.moves ran.unwritten kept ran.outside;
+            }
 
-    pub computes_right : Computes w m (measured m out after most_steps)
-    computes_right = λ args meets pointers mem vars starts. ends args meets pointers mem vars starts
+      pub computes_right : Computes w m (measured m out after most_steps)
+      computes_right = λ args meets pointers mem vars starts. ends args meets pointers mem vars starts
 
 -- Few commands.
 
-commands_small : CommandsAreSmall → (turn : Turn) → Laws turn → (m : Model) → Spellable m → (d : Derivation) → (out : StmtOut) (after : Context) → Derived turn m d out after
+commands_small : CommandsAreSmall → (turn : Turn) → Laws turn → (m : Model) → Spellable m → (d : Derivation)
+    → (out : StmtOut) (after : Context) → Derived turn m d out after
     → AreSmall d.body m.body (start m).entries out
 commands_small small turn laws m spelled d out after is =
-    yielded (λ o a. AreSmall d.body m.body (start m).entries o) ((block_judged turn d.body).row 0 (size d) 4 m.body (start m)) (out, after)
+    yielded (λ o a. AreSmall d.body m.body (start m).entries o) ((block_judged turn d.body).row 0 (size d) 4 m.body (start m))
+    (out, after)
     (small turn laws d.body 0 (size d) 4 m.body (start m) spelled) is.row
 
-pub few_commands : CommandsAreSmall → (turn : Turn) → Laws turn → (m : Model) → Spellable m → (d : Derivation) → IsWhole d → (begin : Context) → begin ≡ start m
+pub few_commands : CommandsAreSmall → (turn : Turn) → Laws turn → (m : Model) → Spellable m → (d : Derivation) → IsWhole d
+    → (begin : Context) → begin ≡ start m
     → (out : StmtOut) (after : Context) → instance turn m d begin ≡ Ok (out, after) → sum (map cmd_size out.cmds) ≤ 400000
 few_commands small turn laws m spelled d whole begin begun out after is =
-    let here : instance turn m d (start m) ≡ Ok (out, after) = subst (λ (c : Context). instance turn m d c ≡ Ok (out, after)) begun is in
+    let here : instance turn m d (start m)
+    ≡ Ok (out, after) = subst (λ (c : Context). instance turn m d c ≡ Ok (out, after)) begun is in
     let sizes = (commands_small small turn laws m spelled d out after (derived turn m d out after here)).size in
     let nodes = whole.small in
     omega (arith, nodes, sizes)
@@ -256,15 +279,19 @@ pub record Below : Type 0 where
   pub starts_fit : StartFits
   pub start_scoped : StartIsScoped
 
-module _ (below : Below) (turn : Turn) (laws : Laws turn) (m : Model) (well : types.Well m) (within : limits.Within m) (spelled : Spellable m) (formed : model_formed m ≡ true) (d : Derivation)
+module _ (below : Below) (turn : Turn) (laws : Laws turn) (m : Model) (well : types.Well m) (within : limits.Within m)
+    (spelled : Spellable m) (formed : model_formed m ≡ true) (d : Derivation)
     (whole : IsWhole d) where
   -- what the nodes give does what the statements do
   done_right : (out : StmtOut) (after : Context) → Derived turn m d out after → IsConsistent (start m)
-      → StmtDone m.params (parts_of m well).scope (parts_of m well).end_.1 (model.in_turn (map model.run m.body)) (start m) out after
+      → StmtDone m.params (parts_of m well).scope (parts_of m well).end_.1 (model.in_turn (map model.run m.body)) (start m) out
+      after
   done_right out after is consistent =
       let parts = parts_of m well in
-      yielded (StmtDone m.params parts.scope parts.end_.1 (model.in_turn (map model.run m.body)) (start m)) ((block_judged turn d.body).row 0 (size d) 4 m.body (start m)) (out, after)
-      (below.sound turn laws d.body 0 (size d) 4 m.body m.params parts.scope 0 parts.end_ (start m) consistent (below.start_scoped m well parts.scope parts.declared)
+      yielded (StmtDone m.params parts.scope parts.end_.1 (model.in_turn (map model.run m.body)) (start m))
+      ((block_judged turn d.body).row 0 (size d) 4 m.body (start m)) (out, after)
+      (below.sound turn laws d.body 0 (size d) 4 m.body m.params parts.scope 0 parts.end_ (start m) consistent
+      (below.start_scoped m well parts.scope parts.declared)
       (body_formed m formed) spelled parts.typed)
       is.row
 
@@ -277,19 +304,24 @@ module _ (below : Below) (turn : Turn) (laws : Laws turn) (m : Model) (well : ty
       let limits = within_limits m d most out after answer both.1.1 in
       let size = commands_small below.small turn laws m spelled d out after inst in
       let begun = below.start_scoped m well (parts_of m well).scope (parts_of m well).declared in
-      let entries : are_entries (length (entry_names m.params)) out.trips ≡ true = subst (λ (n : ℕ). are_entries n out.trips ≡ true) begun.entries size.entries in
+      let entries : are_entries (length (entry_names m.params)) out.trips
+      ≡ true = subst (λ (n : ℕ). are_entries n out.trips ≡ true) begun.entries size.entries in
       subst (Fulfils m) limits.is
       record {
-        computes = computes_right m well d out after limits.most_steps limits.bound_is formed (done_right out after inst) entries inst.named inst.kept below.starts_fit;
+        computes = computes_right m well d out after limits.most_steps limits.bound_is formed (done_right out after inst) entries
+            inst.named inst.kept below.starts_fit;
         measured = measured_right m well d out after limits.most_steps limits.bound_is entries;
-        small = small_right m well d out after limits.most_steps limits.bound_is most (block_size d.body) few limits.slots limits.light whole.small size.size
+        small = small_right m well d out after limits.most_steps limits.bound_is most (block_size d.body) few limits.slots
+            limits.light whole.small size.size
             (omega (arith, size.tables, whole.small)) (omega (arith, size.table_bytes, within.small_tables));
       }
 
 -- what is answered is so of the model that was checked
 pub answer_fulfils : (P : Model → Checked → Type 0) → ((m : Model) (answer : Checked) → Fulfils m answer → P m answer)
-    → Below → (turn : Turn) → Laws turn → (inner m : Model) → m ≡ inner → types.Well m → limits.Within m → Spellable m → model_formed m ≡ true
-    → (d : Derivation) → IsWhole d → (most : ℕ) → most ≤ 1000000 → (result : Result Checked Fail) → Answers result (replayed turn m d most) → IfOk result (P inner)
+    → Below → (turn : Turn) → Laws turn → (inner m : Model) → m ≡ inner → types.Well m → limits.Within m → Spellable m
+    → model_formed m ≡ true
+    → (d : Derivation) → IsWhole d → (most : ℕ) → most ≤ 1000000 → (result : Result Checked Fail)
+    → Answers result (replayed turn m d most) → IfOk result (P inner)
 answer_fulfils P part below turn laws inner m is well within spelled formed d whole most few result answered =
     subst (λ (z : Model). IfOk result (P z)) is
     (if_answered (P m) result (replayed turn m d most) answered

@@ -1,5 +1,6 @@
 -- At the end the results are where the command says.
-use Rattle.std.proofs.Common.{◌≡◌, refl, sym, ◌∙◌, ap, subst, ℕ, true, false, List, [], ◌∷◌, ◌++◌, map, Option, Some, None, Ok, Err}
+use Rattle.std.proofs.Common.{◌≡◌, refl, sym, ◌∙◌, ap, subst, ℕ, true, false, List, [], ◌∷◌, ◌++◌, map, Option, Some, None, Ok}
+use Rattle.std.proofs.Common.{Err}
 use Rattle.std.specs.Prelude.{is_some}
 use Rattle.std.specs.List.{list_all}
 use Rattle.std.proofs.lemmas.Bool.{eqb-true}
@@ -35,7 +36,8 @@ scalar_typed None t is = absurd (let bad : Err why.Unknown ≡ Ok t = is in cc)
 scalar_typed (Some (One u)) t is = ap (λ z. Some (One z)) (answer_is u t is)
 scalar_typed (Some (Many u n)) t is = absurd (let bad : Err why.NotScalar ≡ Ok t = is in cc)
 
-module _ (ps : List Param) (begin end_ : Scope) (call : Call) (numbers : ℕ → ℕ) (after : Context) (env : Env) (mem : Bytes) (locals : Locals)
+module _ (ps : List Param) (begin end_ : Scope) (call : Call) (numbers : ℕ → ℕ) (after : Context) (env : Env) (mem : Bytes)
+    (locals : Locals)
     (fits : FitsBy call numbers after env mem locals) (scoped : IsScoped ps end_ after) where
   abbrev Hold : List Ret → Type 0
   Hold rs = HoldsResults ps call.pointers rs (map (model.result_of env) rs) (rets_of after rs) mem locals
@@ -48,7 +50,8 @@ module _ (ps : List Param) (begin end_ : Scope) (call : Call) (numbers : ℕ →
         let f = fits.scalars x h is in
         rw (is, f.value) (f.local, rest)
 
-  clause_holds : (a p : Name) (rs : List Ret) (k : Clause) → own after a ≡ Some k → k.param ≡ number_of ps p → Hold rs → Hold (ret.Array a p ∷ rs)
+  clause_holds : (a p : Name) (rs : List Ret) (k : Clause) → own after a ≡ Some k → k.param ≡ number_of ps p → Hold rs
+      → Hold (ret.Array a p ∷ rs)
   clause_holds a p rs k is param_is rest = by (value_of env a) refl where
     by : (v : Option Arg) → value_of env a ≡ v → Hold (ret.Array a p ∷ rs)
     by None v_is = absurd (subst (IsArray k.size) v_is (fits.clauses a k is).array)
@@ -57,16 +60,19 @@ module _ (ps : List Param) (begin end_ : Scope) (call : Call) (numbers : ℕ →
         subst (λ z. Stands mem (call.pointers k.param) (array_bytes z)) v_is (fits.clauses a k is).stands in
         let here : Stands mem (call.pointers (number_of ps p)) (array_bytes (Some v)) =
         subst (λ (z : ℕ). Stands mem (call.pointers z) (array_bytes (Some v))) param_is stands in
-        let found : model.result_of env (ret.Array a p) ≡ v = ap (λ (o : Option Arg). elim o [ Some u ↦ u | None ↦ arg.Word 0 ]) v_is in
+        let found : model.result_of env (ret.Array a p)
+        ≡ v = ap (λ (o : Option Arg). elim o [ Some u ↦ u | None ↦ arg.Word 0 ]) v_is in
         (subst (λ z. Stands mem (call.pointers (number_of ps p)) (array_bytes (Some z))) (sym found) here, rest)
 
   array_holds : (a p : Name) (rs : List Ret) → is_of (number_of ps p) (own after a) ≡ true → Hold rs → Hold (ret.Array a p ∷ rs)
   array_holds a p rs named rest = by (own after a) refl where
     by : (o : Option Clause) → own after a ≡ o → Hold (ret.Array a p ∷ rs)
     by None is = absurd (let bad : false ≡ true = sym (ap (is_of (number_of ps p)) is) ∙ named in cc)
-    by (Some k) is = clause_holds a p rs k is (eqb-true k.param (number_of ps p) (sym (ap (is_of (number_of ps p)) is) ∙ named)) rest
+    by (Some k) is = clause_holds a p rs k is (eqb-true k.param (number_of ps p) (sym (ap (is_of (number_of ps p)) is) ∙ named))
+        rest
 
-  pub results_hold : (k : ℕ) (before rs : List Ret) → types.results begin end_ k before rs ≡ Ok tt → are_named ps rs after ≡ true → Hold rs
+  pub results_hold : (k : ℕ) (before rs : List Ret) → types.results begin end_ k before rs ≡ Ok tt → are_named ps rs after ≡ true
+      → Hold rs
   results_hold k before [] typed named = tt
   results_hold k before (ret.Scalar x ∷ rs) typed named =
       let one = first_answered (types.at (Return k) (types.result begin end_ before (ret.Scalar x))) _ tt typed in

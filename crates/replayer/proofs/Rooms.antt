@@ -1,5 +1,6 @@
 -- Where there is room for the locals of commands, there is room for those that they set.
-use Rattle.std.proofs.Common.{◌≡◌, refl, subst, arith, ℕ, ◌<◌, nat_eq, nat_lt, Bool, true, false, ◌&&◌, ◌||◌, List, [], ◌∷◌, ◌++◌, map, ⊎_elim}
+use Rattle.std.proofs.Common.{◌≡◌, refl, subst, arith, ℕ, ◌<◌, nat_eq, nat_lt, Bool, true, false, ◌&&◌, ◌||◌, List, [], ◌∷◌, ◌++◌}
+use Rattle.std.proofs.Common.{map, ⊎_elim}
 use Rattle.std.proofs.lemmas.Bool.Decides.{eqb_tells, nat_tests}
 use Rattle.rup_base.specs.Gather.{all_true}
 use Rattle.bed_syntax.specs.Shape.{is_known, noted, expr_locals, expr_locals_step, cmd_locals, cmd_locals_step, in_turn}
@@ -70,11 +71,13 @@ expr_step_grows (e.Bin op a b) = grows_then (expr_locals a.0) (expr_locals b.0) 
 expr_step_grows (e.Load size a) = a.1
 expr_step_grows (e.Table size bytes a) = a.1
 
-expr_rolled : (y : BExpr-F BExpr) → Grows (expr_locals_step (map-BExpr BExpr Noting expr_locals y)) → Grows (expr_locals (roll-BExpr y))
+expr_rolled : (y : BExpr-F BExpr) → Grows (expr_locals_step (map-BExpr BExpr Noting expr_locals y))
+    → Grows (expr_locals (roll-BExpr y))
 expr_rolled y h = rw (fold-roll-BExpr Noting expr_locals_step y) h
 
 expr_grows : (a : BExpr) → Grows (expr_locals a)
-expr_grows = ind-BExpr (λ a. Grows (expr_locals a)) (λ z y is. subst (λ r. Grows (expr_locals (roll-BExpr r))) is (expr_rolled (bare_expr y) (expr_step_grows y)))
+expr_grows = ind-BExpr (λ a. Grows (expr_locals a))
+    (λ z y is. subst (λ r. Grows (expr_locals (roll-BExpr r))) is (expr_rolled (bare_expr y) (expr_step_grows y)))
 
 -- Commands.
 
@@ -96,7 +99,8 @@ module _ (n : ℕ) where
   bare y = map-Cmd Proved Cmd (λ p. p.0) y
 
   abbrev StepRight : Cmd-F Cmd → Type 0
-  StepRight y = IsRoomy (cmd_locals_step (map-Cmd Cmd Noting cmd_locals y)) (sets_below_step n (map-Cmd Cmd Bool (sets_below n) y))
+  StepRight y = IsRoomy (cmd_locals_step (map-Cmd Cmd Noting cmd_locals y))
+      (sets_below_step n (map-Cmd Cmd Bool (sets_below n) y))
 
   both : (a b : Bool) → a ≡ true → b ≡ true → (a && b) ≡ true
   both true b one two = two
@@ -123,15 +127,18 @@ module _ (n : ℕ) where
   store_roomy : (f : Noting) → Grows f → IsRoomy f true
   store_roomy f grows = record { grows = grows; room = λ xs below. refl }
 
-  all_right : (cs : List Proved) → IsRoomy (in_turn (map cmd_locals (map (λ p. p.0) cs))) (all_true (map (sets_below n) (map (λ p. p.0) cs)))
+  all_right : (cs : List Proved)
+      → IsRoomy (in_turn (map cmd_locals (map (λ p. p.0) cs))) (all_true (map (sets_below n) (map (λ p. p.0) cs)))
   all_right [] = none_roomy
   all_right (a ∷ cs) =
-      then_roomy (cmd_locals a.0) (in_turn (map cmd_locals (map (λ p. p.0) cs))) (sets_below n a.0) (all_true (map (sets_below n) (map (λ p. p.0) cs))) a.1 (all_right cs)
+      then_roomy (cmd_locals a.0) (in_turn (map cmd_locals (map (λ p. p.0) cs))) (sets_below n a.0)
+      (all_true (map (sets_below n) (map (λ p. p.0) cs))) a.1 (all_right cs)
 
   step_right : (y : Cmd-F Proved) → StepRight (bare y)
   step_right (c.Set x e) = after_roomy (expr_locals e) (noted x) (nat_lt x n) (expr_grows e) (set_roomy x)
   step_right (c.Store size a e) =
-      store_roomy (λ xs. expr_locals e (expr_locals a xs)) (grows_then (expr_locals a) (expr_locals e) (expr_grows a) (expr_grows e))
+      store_roomy (λ xs. expr_locals e (expr_locals a xs))
+      (grows_then (expr_locals a) (expr_locals e) (expr_grows a) (expr_grows e))
   step_right (c.Cond e p q) =
       after_roomy (expr_locals e) (λ xs. cmd_locals q.0 (cmd_locals p.0 xs)) (sets_below n p.0 && sets_below n q.0) (expr_grows e)
       (then_roomy (cmd_locals p.0) (cmd_locals q.0) (sets_below n p.0) (sets_below n q.0) p.1 q.1)

@@ -7,7 +7,8 @@ use Rattle.deriv_tree.specs.declared.tree.Block.{Block, out-Block, roll-out-Bloc
 
 pub sum_first : {X : Type 0} (f : X → ℕ) (xs : List X) (x : X) → 1 ≤ length xs → x ≡ slice_index_or xs 0 x
     → sum (map f xs) ≡ f x + sum (map f (take (length xs - 1) (drop 1 xs)))
-sum_first f xs x long is = ap (λ l. sum (map f l)) (split_first xs x long is) ∙ sum_by-cons (λ n. n) (f x) (map f (take (length xs - 1) (drop 1 xs)))
+sum_first f xs x long is = ap (λ l. sum (map f l)) (split_first xs x long is)
+    ∙ sum_by-cons (λ n. n) (f x) (map f (take (length xs - 1) (drop 1 xs)))
 
 pub block_sum : (b : Block) → block_size b ≡ sum (map stmt_size (out-Block b).nodes)
 block_sum b = ap block_size (sym (roll-out-Block b)) ∙ fold-roll-Block ℕ ℕ block_size_step stmt_size_step (out-Block b)

@@ -1,5 +1,6 @@
 -- What well typed models take: at most eight registers for arguments, and at most two locals for scalar results.
-use Rattle.std.proofs.Common.{◌≡◌, refl, sym, ◌∙◌, ap, arith, ℕ, ◌+◌, ◌<◌, ◌≤◌, nat_le, nat_lt, Bool, true, false, List, [], ◌∷◌, ◌++◌, length, map, Option, Some, None, Result, Ok, Err, if◌then◌else◌}
+use Rattle.std.proofs.Common.{◌≡◌, refl, sym, ◌∙◌, ap, arith, ℕ, ◌+◌, ◌<◌, ◌≤◌, nat_le, nat_lt, Bool, true, false, List, [], ◌∷◌}
+use Rattle.std.proofs.Common.{◌++◌, length, map, Option, Some, None, Result, Ok, Err, if◌then◌else◌}
 use Rattle.std.proofs.lemmas.Bool.{leb-true, ltb-true}
 use Rattle.std.proofs.lemmas.List.{length-append}
 use Rattle.rup_base.specs.declared.refusal.TypePlace.TheVariants.{Params, Return}
@@ -56,7 +57,8 @@ declare_takes x t c end_ is =
     sym (ap length bound) ∙ length-append c (record { name = x; shape = t } ∷ [])
 
 length_takes : (n : Len) (c end_ : Scope) → types.declare_length n c ≡ Ok end_ → length end_ ≡ length c + length_registers n
-length_takes (Fixed n) c end_ is = let same_one : c ≡ end_ = answer_is c end_ is in let many : length c ≡ length end_ = ap length same_one in omega (arith, many)
+length_takes (Fixed n) c end_ is = let same_one : c ≡ end_ = answer_is c end_ is in let many : length c
+    ≡ length end_ = ap length same_one in omega (arith, many)
 length_takes (Named x) c end_ is = declare_takes x (One Word) c end_ is
 
 param_takes : (p : Param) (c end_ : Scope) → types.declare_param p c ≡ Ok end_ → length end_ ≡ length c + registers_of p
@@ -77,9 +79,11 @@ few_names c end_ is = by (nat_le (length c) 8) refl is where
       let same_one : c ≡ end_ = answer_is c end_ here in
       (sym (ap length same_one), leb-true _ _ few)
   by false few is =
-      absurd (let bad : (if false then Ok c else Err why.Registers) ≡ Ok end_ = rw few at is in let worse : ◌≡◌ {A = Result Scope TypeWhy} (Err why.Registers) (Ok end_) = bad in cc)
+      absurd (let bad : (if false then Ok c else Err why.Registers) ≡ Ok end_ = rw few at is in
+      let worse : ◌≡◌ {A = Result Scope TypeWhy} (Err why.Registers) (Ok end_) = bad in cc)
 
-params_take : (ps : List Param) (c end_ : Scope) → length c ≤ 8 → types.declare_params ps c ≡ Ok end_ → length c + registers ps ≤ 8
+params_take : (ps : List Param) (c end_ : Scope) → length c ≤ 8 → types.declare_params ps c ≡ Ok end_
+    → length c + registers ps ≤ 8
 params_take [] c end_ few is = omega (arith, few)
 params_take (p ∷ ps) c end_ few is =
     let one = first_answered (types.declare_param p c) _ end_ is in
@@ -121,9 +125,11 @@ below_two : (n : ℕ) (u : Unit {0}) → ◌≡◌ {A = types.Rule} (if nat_lt n
 below_two n u is = by (nat_lt n 2) refl is where
   by : (b : Bool) → nat_lt n 2 ≡ b → ◌≡◌ {A = types.Rule} (if nat_lt n 2 then Ok tt else Err why.Results) (Ok u) → n < 2
   by true few is = ltb-true n 2 few
-  by false few is = absurd (let bad : ◌≡◌ {A = types.Rule} (if false then Ok tt else Err why.Results) (Ok u) = rw few at is in let worse : ◌≡◌ {A = types.Rule} (Err why.Results) (Ok u) = bad in cc)
+  by false few is = absurd (let bad : ◌≡◌ {A = types.Rule} (if false then Ok tt else Err why.Results) (Ok u) = rw few at is in
+      let worse : ◌≡◌ {A = types.Rule} (Err why.Results) (Ok u) = bad in cc)
 
-results_few : (begin end_ : Scope) (k : ℕ) (before rs : List Ret) → types.scalar_results before ≤ 2 → types.results begin end_ k before rs ≡ Ok tt
+results_few : (begin end_ : Scope) (k : ℕ) (before rs : List Ret) → types.scalar_results before ≤ 2
+    → types.results begin end_ k before rs ≡ Ok tt
     → types.scalar_results before + types.scalar_results rs ≤ 2
 results_few begin end_ k before [] few is = omega (arith, few)
 results_few begin end_ k before (ret.Scalar x ∷ rs) few is =

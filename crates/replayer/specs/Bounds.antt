@@ -4,7 +4,8 @@
 -- block, then that node's own. Each node but a note has the next command, and a loop's node the sets before its loop too. What a
 -- rule adds to the commands of its block stands behind them. A loop takes the first trip form that is left. The derivation only
 -- says for which node a sum is made: the bound is that of the commands and trip forms, whatever the derivation is.
-use Rattle.std.specs.Prelude.{ℕ, ◌+◌, Bool, true, false, List, [], ◌∷◌, map, sum, Option, Some, None, Result, Ok, Err, if◌then◌else◌}
+use Rattle.std.specs.Prelude.{ℕ, ◌+◌, Bool, true, false, List, [], ◌∷◌, map, sum, Option, Some, None, Result, Ok, Err}
+use Rattle.std.specs.Prelude.{if◌then◌else◌}
 use Rattle.rup_base.specs.Answers.{and_then, and_then_with}
 use Rattle.rup_base.specs.declared.refusal.Refusal.{Refusal}
 use Rattle.rup_base.specs.declared.refusal.Refusal.TheVariants.{OverBound}

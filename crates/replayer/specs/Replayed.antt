@@ -76,7 +76,8 @@ abbrev pub sized : ℕ → ℕ → Result (Unit {0}) Refusal
 sized weight most = if nat_le (4 * weight) most then Ok tt else Err (OverSize (4 * weight))
 
 abbrev pub slots_of : Model → StmtOut → Context → ℕ
-slots_of m out after = length (locals_of (command_of out) (registers m.params) (rets_of after m.rets)) + cmd_depth (command_of out)
+slots_of m out after = length (locals_of (command_of out) (registers m.params) (rets_of after m.rets))
+    + cmd_depth (command_of out)
 
 abbrev pub checked : Model → Derivation → StmtOut → Context → Poly → Checked
 checked m d out after most_steps = record { command = measured m out after most_steps; nodes = size d }

@@ -131,7 +131,8 @@ fn weight(c: &Cmd) -> Option<u32>
 #[tactic(auto, using(crate::proofs::Split::sum_first))]
 fn sets(cmds: &[Cmd], held: u32) -> (u32, &[Cmd])
     requires { held + 8 * sum (map cmd_size cmds.now) < 2 ^ 31 }
-    ensures sets { spec.sets (map (spec.priced Weights.LARGE) cmds.now) held ≡ (result.0, map (spec.priced Weights.LARGE) result.1.now) }
+    ensures sets { spec.sets (map (spec.priced Weights.LARGE) cmds.now) held
+        ≡ (result.0, map (spec.priced Weights.LARGE) result.1.now) }
     ensures bounded { result.0 + 8 * sum (map cmd_size result.1.now) ≤ held + 8 * sum (map cmd_size cmds.now) }
 {
     match cmds {
@@ -146,7 +147,8 @@ fn sets(cmds: &[Cmd], held: u32) -> (u32, &[Cmd])
 /// What a node's sets weigh, and the commands from its last on.
 fn begun(rule: Rule, cmds: &[Cmd]) -> (u32, &[Cmd])
     requires { 8 * sum (map cmd_size cmds.now) < 2 ^ 31 }
-    ensures begun { spec.begun rule (map (spec.priced Weights.LARGE) cmds.now) ≡ (result.0, map (spec.priced Weights.LARGE) result.1.now) }
+    ensures begun { spec.begun rule (map (spec.priced Weights.LARGE) cmds.now)
+        ≡ (result.0, map (spec.priced Weights.LARGE) result.1.now) }
     ensures bounded { result.0 + 8 * sum (map cmd_size result.1.now) ≤ 8 * sum (map cmd_size cmds.now) }
 {
     if is_loop(rule) {
@@ -192,7 +194,8 @@ fn nodes_of(blocks: &[Block]) -> &[StmtNode]
     }
 }
 
-/// The bound of a command for the node of a number, which adds the number `more`; `first` is that of the first node in its blocks.
+/// The bound of a command for the node of a number, which adds the number `more`; `first` is that of the first node in its
+/// blocks.
 #[cycle(bound)]
 fn bound_of(
     c: &Cmd,
@@ -204,7 +207,8 @@ fn bound_of(
 ) -> Result<Poly, Fail>
     requires few { first + sum (map block_size blocks.now) ≤ 20_000 }
     requires small { more + 8 * cmd_size c.now < 2 ^ 31 }
-    ensures { AnswersWith result trips.new.left.now ((spec.priced Weights.LARGE c.now).bound at more (first, blocks.now) trips.old.left.now) }
+    ensures { AnswersWith result trips.new.left.now
+        ((spec.priced Weights.LARGE c.now).bound at more (first, blocks.now) trips.old.left.now) }
 {
     let w = Weights::LARGE;
     match c {
@@ -250,7 +254,9 @@ fn choice(
 ) -> Result<Poly, Fail>
     requires few { first + sum (map block_size blocks.now) ≤ 20_000 }
     requires small { more + test + 8 * cmd_size p.now + 8 * cmd_size q.now < 2 ^ 31 }
-    ensures { AnswersWith result trips.new.left.now (spec.choice test (spec.priced Weights.LARGE p.now) (spec.priced Weights.LARGE q.now) at more (first, blocks.now) trips.old.left.now) }
+    ensures { AnswersWith result trips.new.left.now
+        (spec.choice test (spec.priced Weights.LARGE p.now) (spec.priced Weights.LARGE q.now) at more (first, blocks.now)
+        trips.old.left.now) }
 {
     let one = bound_of(p, at, 0, first, blocks, trips)?;
     let (next, rest) = others(first, blocks);
@@ -271,7 +277,8 @@ fn turns(
 ) -> Result<Poly, Fail>
     requires few { first + sum (map block_size blocks.now) ≤ 20_000 }
     requires small { more + test + 8 * cmd_size p.now < 2 ^ 31 }
-    ensures { AnswersWith result trips.new.left.now (spec.loop test (spec.priced Weights.LARGE p.now) at more (first, blocks.now) trips.old.left.now) }
+    ensures { AnswersWith result trips.new.left.now
+        (spec.loop test (spec.priced Weights.LARGE p.now) at more (first, blocks.now) trips.old.left.now) }
 {
     let [trip, rest @ ..] = trips.left else {
         return Ok(constant(at, more)?);
@@ -292,7 +299,8 @@ fn last_bound(
 ) -> Result<Poly, Fail>
     requires few { at + stmt_size node.now ≤ 20_000 }
     requires small { held + 8 * sum (map cmd_size cmds.now) < 2 ^ 31 }
-    ensures { AnswersWith result trips.new.left.now (spec.last_bound at (spec.inside at node.now) (held, map (spec.priced Weights.LARGE) cmds.now) trips.old.left.now) }
+    ensures { AnswersWith result trips.new.left.now
+        (spec.last_bound at (spec.inside at node.now) (held, map (spec.priced Weights.LARGE) cmds.now) trips.old.left.now) }
 {
     match cmds {
         [] => Ok(constant(at, held)?),
@@ -313,7 +321,8 @@ fn own(
     trips: &mut Trips<'_>,
 ) -> Result<Poly, Fail>
     requires small { more + 8 * sum (map cmd_size cmds.now) < 2 ^ 31 }
-    ensures { AnswersWith result trips.new.left.now (spec.own at (map (spec.priced Weights.LARGE) cmds.now) more so_far trips.old.left.now) }
+    ensures { AnswersWith result trips.new.left.now
+        (spec.own at (map (spec.priced Weights.LARGE) cmds.now) more so_far trips.old.left.now) }
 {
     match cmds {
         [] => {
@@ -343,7 +352,8 @@ fn in_order(
 ) -> Result<Poly, Fail>
     requires few { first + sum (map stmt_size nodes.now) ≤ 20_000 }
     requires small { more + 8 * sum (map cmd_size cmds.now) < 2 ^ 31 }
-    ensures { AnswersWith result trips.new.left.now (spec.in_order at more first nodes.now (map (spec.priced Weights.LARGE) cmds.now) so_far trips.old.left.now) }
+    ensures { AnswersWith result trips.new.left.now
+        (spec.in_order at more first nodes.now (map (spec.priced Weights.LARGE) cmds.now) so_far trips.old.left.now) }
 {
     let mut next = first;
     let mut left = nodes;

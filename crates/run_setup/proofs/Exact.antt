@@ -39,7 +39,8 @@ result_fits c env (ret.Scalar x) (arg.Bytes ns) result = tt
 result_fits c env (ret.Scalar x) (arg.Words ns) result = absurd (let bad = result.is in cc)
 result_fits c env (ret.Array a p) v result = like_argument result.argument v result.same
 
-pub results_fit : (c : Scope) (env : Env) (rets : List Ret) (found : List Arg) → AreResults c env rets found → AllByRecursion HasWords found
+pub results_fit : (c : Scope) (env : Env) (rets : List Ret) (found : List Arg) → AreResults c env rets found
+    → AllByRecursion HasWords found
 results_fit c env [] [] all = tt
 results_fit c env [] (v ∷ found) all = absurd all
 results_fit c env (r ∷ rets) [] all = absurd all

@@ -1,5 +1,7 @@
 -- The returned arrays of a well typed model have the kinds and lengths of their parameters' arguments.
-use Rattle.std.proofs.Common.{◌≡◌, refl, sym, ◌∙◌, ap, subst, arith, ℕ, ◌+◌, ◌<◌, ◌≤◌, Bool, true, false, List, [], ◌∷◌, ◌++◌, length, map, get_or, Option, Some, None, Ok, Err, ◌⊎◌, inl, inr, if◌then◌else◌, append_assoc, length-append}
+use Rattle.std.proofs.Common.{◌≡◌, refl, sym, ◌∙◌, ap, subst, arith, ℕ, ◌+◌, ◌<◌, ◌≤◌, Bool, true, false, List, [], ◌∷◌, ◌++◌}
+use Rattle.std.proofs.Common.{length, map, get_or, Option, Some, None, Ok, Err, ◌⊎◌, inl, inr, if◌then◌else◌, append_assoc}
+use Rattle.std.proofs.Common.{length-append}
 use Rattle.std.specs.Prelude.{slice_index_or, ⊤}
 use Rattle.std.proofs.lemmas.Bool.{eqb-true}
 use Rattle.std.proofs.lemmas.List.{append-nil, get_or_append_left}
@@ -81,20 +83,23 @@ record Begun (c : Scope) (env : Env) (names : List Name) (args : List Arg) : Typ
 abbrev Kept : Scope → Scope → Env → Env → Type 0
 Kept c after env env_after = (y : Name) → InScope c y → (value_of env_after y ≡ value_of env y) × InScope after y
 
-bound_kept : (c : Scope) (env : Env) (p : Name) (t : NameType) (v : Arg) → look_up c p ≡ None → Kept c (bind p t c) env (put p v env)
+bound_kept : (c : Scope) (env : Env) (p : Name) (t : NameType) (v : Arg) → look_up c p ≡ None
+    → Kept c (bind p t c) env (put p v env)
 bound_kept c env p t v fresh y known = by (same p y) refl
   where
     by : (is : Bool) → same p y ≡ is → (value_of (put p v env) y ≡ value_of env y) × InScope (bind p t c) y
     by true is = absurd (known (ap (look_up c) (sym (same_is p y is)) ∙ fresh))
     by false is = (value_else p y v env is, λ none. known (sym (up_else c p y t is) ∙ none))
 
-kept_then : (c middle after : Scope) (env env_middle env_after : Env) → Kept c middle env env_middle → Kept middle after env_middle env_after → Kept c after env env_after
+kept_then : (c middle after : Scope) (env env_middle env_after : Env) → Kept c middle env env_middle
+    → Kept middle after env_middle env_after → Kept c after env env_after
 kept_then c middle after env env_middle env_after one two y known =
     let first = one y known in
     let second = two y first.1 in
     (second.0 ∙ first.0, second.1)
 
-length_kept : (c after : Scope) (env env_after : Env) (k : Len) → Kept c after env env_after → LengthKnown c k → (len_of (numbers env_after) k ≡ len_of (numbers env) k) × LengthKnown after k
+length_kept : (c after : Scope) (env env_after : Env) (k : Len) → Kept c after env env_after → LengthKnown c k
+    → (len_of (numbers env_after) k ≡ len_of (numbers env) k) × LengthKnown after k
 length_kept c after env env_after (Fixed n) kept known = (refl, tt)
 length_kept c after env env_after (Named x) kept known = let both = kept x known in (ap number both.0, both.1)
 
@@ -110,7 +115,8 @@ in_scope o t k is none = absurd (let bad : None ≡ Some (Many t k) = sym none �
 extended : (c after : Scope) (env env_after : Env) (names : List Name) (args : List Arg) (p : Name) (v : Arg) → look_up c p ≡ None
     → ((y : Name) → look_up after y ≡ None → (same p y ≡ false) × (look_up c y ≡ None))
     → Kept c after env env_after
-    → ((y : Name) (t : Scalar) (k : Len) → look_up after y ≡ Some (Many t k) → (look_up c y ≡ Some (Many t k)) ⊎ IsNew after env_after p v y t k)
+    → ((y : Name) (t : Scalar) (k : Len) → look_up after y ≡ Some (Many t k)
+    → (look_up c y ≡ Some (Many t k)) ⊎ IsNew after env_after p v y t k)
     → Begun c env names args → Begun after env_after (names ++ p ∷ []) (args ++ v ∷ [])
 extended c after env env_after names args p v fresh below kept arrays b =
     record {
@@ -119,7 +125,8 @@ extended c after env env_after names args p v fresh below kept arrays b =
       others = λ y none. let before = below y none in among_none y p names (b.others y before.1) before.0;
     }
   where
-    by : (y : Name) (t : Scalar) (k : Len) → (look_up c y ≡ Some (Many t k)) ⊎ IsNew after env_after p v y t k → IsGiven after env_after (names ++ p ∷ []) (args ++ v ∷ []) y t k
+    by : (y : Name) (t : Scalar) (k : Len) → (look_up c y ≡ Some (Many t k)) ⊎ IsNew after env_after p v y t k
+        → IsGiven after env_after (names ++ p ∷ []) (args ++ v ∷ []) y t k
     by y t k (inl found) =
         let old = b.arrays y t k found in
         let same_value = kept y (in_scope (look_up c y) t k found) in
@@ -129,7 +136,9 @@ extended c after env env_after names args p v fresh below kept arrays b =
           value = old.value;
           held = same_value.0 ∙ old.held;
           listed = omega (arith, place, old.listed, length-append names (p ∷ []));
-          given = ap (λ (n : ℕ). get_or (args ++ v ∷ []) n (arg.Word 0)) place ∙ get_or_append_left args (v ∷ []) (arg.Word 0) (number_among y names) (omega (arith, old.listed, b.sizes)) ∙ old.given;
+          given = ap (λ (n : ℕ). get_or (args ++ v ∷ []) n (arg.Word 0)) place
+              ∙ get_or_append_left args (v ∷ []) (arg.Word 0) (number_among y names) (omega (arith, old.listed, b.sizes))
+              ∙ old.given;
           shape = subst (λ (n : ℕ). HasShape t n old.value) (sym lengths.0) old.shape;
           known = lengths.1;
         }
@@ -146,12 +155,15 @@ extended c after env env_after names args p v fresh below kept arrays b =
           known = new.known;
         }
 
-scalar_begun : (c : Scope) (env : Env) (names : List Name) (args : List Arg) (x : Name) (u : Scalar) (v : Arg) → look_up c x ≡ None
+scalar_begun : (c : Scope) (env : Env) (names : List Name) (args : List Arg) (x : Name) (u : Scalar) (v : Arg)
+    → look_up c x ≡ None
     → Begun c env names args → Begun (bind x (One u) c) (put x v env) (names ++ x ∷ []) (args ++ v ∷ [])
 scalar_begun c env names args x u v fresh b =
-    extended c (bind x (One u) c) env (put x v env) names args x v fresh (λ y none. none_before c x y (One u) none) (bound_kept c env x (One u) v fresh) arrays b
+    extended c (bind x (One u) c) env (put x v env) names args x v fresh (λ y none. none_before c x y (One u) none)
+    (bound_kept c env x (One u) v fresh) arrays b
   where
-    arrays : (y : Name) (t : Scalar) (k : Len) → look_up (bind x (One u) c) y ≡ Some (Many t k) → (look_up c y ≡ Some (Many t k)) ⊎ IsNew (bind x (One u) c) (put x v env) x v y t k
+    arrays : (y : Name) (t : Scalar) (k : Len) → look_up (bind x (One u) c) y ≡ Some (Many t k)
+        → (look_up c y ≡ Some (Many t k)) ⊎ IsNew (bind x (One u) c) (put x v env) x v y t k
     arrays y t k found = by (same x y) refl
       where
         by : (is : Bool) → same x y ≡ is → (look_up c y ≡ Some (Many t k)) ⊎ IsNew (bind x (One u) c) (put x v env) x v y t k
@@ -162,34 +174,42 @@ same_many : (t u : Scalar) (k l : Len) → Some (Many u l) ≡ Some (Many t k) �
 same_many t u k l is = (cc, cc)
 
 -- an array of a fixed length
-fixed_begun : (c : Scope) (env : Env) (names : List Name) (args : List Arg) (a : Name) (u : Scalar) (n : ℕ) (v : Arg) → look_up c a ≡ None → HasShape u n v
+fixed_begun : (c : Scope) (env : Env) (names : List Name) (args : List Arg) (a : Name) (u : Scalar) (n : ℕ) (v : Arg)
+    → look_up c a ≡ None → HasShape u n v
     → Begun c env names args → Begun (bind a (Many u (Fixed n)) c) (put a v env) (names ++ a ∷ []) (args ++ v ∷ [])
 fixed_begun c env names args a u n v fresh shape b =
-    extended c (bind a (Many u (Fixed n)) c) env (put a v env) names args a v fresh (λ y none. none_before c a y (Many u (Fixed n)) none) (bound_kept c env a (Many u (Fixed n)) v fresh) arrays b
+    extended c (bind a (Many u (Fixed n)) c) env (put a v env) names args a v fresh
+    (λ y none. none_before c a y (Many u (Fixed n)) none) (bound_kept c env a (Many u (Fixed n)) v fresh) arrays b
   where
-    arrays : (y : Name) (t : Scalar) (k : Len) → look_up (bind a (Many u (Fixed n)) c) y ≡ Some (Many t k) → (look_up c y ≡ Some (Many t k)) ⊎ IsNew (bind a (Many u (Fixed n)) c) (put a v env) a v y t k
+    arrays : (y : Name) (t : Scalar) (k : Len) → look_up (bind a (Many u (Fixed n)) c) y ≡ Some (Many t k)
+        → (look_up c y ≡ Some (Many t k)) ⊎ IsNew (bind a (Many u (Fixed n)) c) (put a v env) a v y t k
     arrays y t k found = by (same a y) refl
       where
-        by : (is : Bool) → same a y ≡ is → (look_up c y ≡ Some (Many t k)) ⊎ IsNew (bind a (Many u (Fixed n)) c) (put a v env) a v y t k
+        by : (is : Bool) → same a y ≡ is
+            → (look_up c y ≡ Some (Many t k)) ⊎ IsNew (bind a (Many u (Fixed n)) c) (put a v env) a v y t k
         by true is =
             let types_are = same_many t u k (Fixed n) (sym (up_here c a y (Many u (Fixed n)) is) ∙ found) in
             inr
             (record {
               name = is;
               held = ap (value_of (put a v env)) (sym (same_is a y is)) ∙ value_here a v env;
-              shape = subst (λ (j : Len). HasShape t (len_of (numbers (put a v env)) j) v) types_are.1 (subst (λ (w : Scalar). HasShape w n v) types_are.0 shape);
+              shape = subst (λ (j : Len). HasShape t (len_of (numbers (put a v env)) j) v) types_are.1
+                  (subst (λ (w : Scalar). HasShape w n v) types_are.0 shape);
               known = subst (λ (j : Len). LengthKnown (bind a (Many u (Fixed n)) c) j) types_are.1 tt;
             })
         by false is = inl (sym (up_else c a y (Many u (Fixed n)) is) ∙ found)
 
 -- an array whose length has a name
-named_begun : (c : Scope) (env : Env) (names : List Name) (args : List Arg) (a x : Name) (u : Scalar) (n : ℕ) (v : Arg) → look_up c a ≡ None
+named_begun : (c : Scope) (env : Env) (names : List Name) (args : List Arg) (a x : Name) (u : Scalar) (n : ℕ) (v : Arg)
+    → look_up c a ≡ None
     → look_up (bind a (Many u (Named x)) c) x ≡ None → HasShape u n v
-    → Begun c env names args → Begun (bind x (One Word) (bind a (Many u (Named x)) c)) (put x (arg.Word n) (put a v env)) (names ++ a ∷ []) (args ++ v ∷ [])
+    → Begun c env names args → Begun (bind x (One Word) (bind a (Many u (Named x)) c)) (put x (arg.Word n) (put a v env))
+    (names ++ a ∷ []) (args ++ v ∷ [])
 named_begun c env names args a x u n v fresh fresh_length shape b =
     extended c after env env_after names args a v fresh
     (λ y none. none_before c a y (Many u (Named x)) (none_before middle x y (One Word) none).1)
-    (kept_then c middle after env (put a v env) env_after (bound_kept c env a (Many u (Named x)) v fresh) (bound_kept middle (put a v env) x (One Word) (arg.Word n) fresh_length)) arrays b
+    (kept_then c middle after env (put a v env) env_after (bound_kept c env a (Many u (Named x)) v fresh)
+    (bound_kept middle (put a v env) x (One Word) (arg.Word n) fresh_length)) arrays b
   where
     middle : Scope
     middle = bind a (Many u (Named x)) c
@@ -200,41 +220,55 @@ named_begun c env names args a x u n v fresh fresh_length shape b =
     env_after : Env
     env_after = put x (arg.Word n) (put a v env)
 
-    arrays : (y : Name) (t : Scalar) (k : Len) → look_up after y ≡ Some (Many t k) → (look_up c y ≡ Some (Many t k)) ⊎ IsNew after env_after a v y t k
+    arrays : (y : Name) (t : Scalar) (k : Len) → look_up after y ≡ Some (Many t k)
+        → (look_up c y ≡ Some (Many t k)) ⊎ IsNew after env_after a v y t k
     arrays y t k found = by (same x y) refl (same a y) refl
       where
-        by : (here : Bool) → same x y ≡ here → (is : Bool) → same a y ≡ is → (look_up c y ≡ Some (Many t k)) ⊎ IsNew after env_after a v y t k
-        by true here is at = absurd (let bad : Some (One Word) ≡ Some (Many t k) = sym (up_here middle x y (One Word) here) ∙ found in cc)
+        by : (here : Bool) → same x y ≡ here → (is : Bool) → same a y ≡ is
+            → (look_up c y ≡ Some (Many t k)) ⊎ IsNew after env_after a v y t k
+        by true here is at = absurd (let bad : Some (One Word) ≡ Some (Many t k) = sym (up_here middle x y (One Word) here)
+            ∙ found in cc)
         by false here true at =
-            let types_are = same_many t u k (Named x) (sym (up_here c a y (Many u (Named x)) at) ∙ sym (up_else middle x y (One Word) here) ∙ found) in
+            let types_are = same_many t u k (Named x)
+            (sym (up_here c a y (Many u (Named x)) at) ∙ sym (up_else middle x y (One Word) here) ∙ found) in
             let length_is : n ≡ numbers env_after x = sym (ap number (value_here x (arg.Word n) (put a v env))) in
-            let shape_named : HasShape u (len_of (numbers env_after) (Named x)) v = subst (λ (j : ℕ). HasShape u j v) length_is shape in
-            let known_named : LengthKnown after (Named x) = λ none. absurd (let bad : Some (One Word) ≡ None = sym (up_here middle x x (One Word) (same_self x)) ∙ none in cc) in
+            let shape_named : HasShape u (len_of (numbers env_after) (Named x)) v =
+            subst (λ (j : ℕ). HasShape u j v) length_is shape in
+            let known_named : LengthKnown after (Named x) =
+            λ none. absurd (let bad : Some (One Word) ≡ None = sym (up_here middle x x (One Word) (same_self x)) ∙ none in
+            cc) in
             inr
             (record {
               name = at;
-              held = value_else x y (arg.Word n) (put a v env) here ∙ ap (value_of (put a v env)) (sym (same_is a y at)) ∙ value_here a v env;
-              shape = subst (λ (j : Len). HasShape t (len_of (numbers env_after) j) v) types_are.1 (subst (λ (w : Scalar). HasShape w (len_of (numbers env_after) (Named x)) v) types_are.0 shape_named);
+              held = value_else x y (arg.Word n) (put a v env) here ∙ ap (value_of (put a v env)) (sym (same_is a y at))
+                  ∙ value_here a v env;
+              shape = subst (λ (j : Len). HasShape t (len_of (numbers env_after) j) v) types_are.1
+                  (subst (λ (w : Scalar). HasShape w (len_of (numbers env_after) (Named x)) v) types_are.0 shape_named);
               known = subst (λ (j : Len). LengthKnown after j) types_are.1 known_named;
             })
-        by false here false at = inl (sym (up_else c a y (Many u (Named x)) at) ∙ sym (up_else middle x y (One Word) here) ∙ found)
+        by false here false at = inl (sym (up_else c a y (Many u (Named x)) at) ∙ sym (up_else middle x y (One Word) here)
+            ∙ found)
 
 -- an array has the length of its parameter
 abbrev has_length : Len → ℕ → Bool
 has_length (Fixed n) = is_length (Some n)
 has_length (Named x) = is_length None
 
-bytes_length : (a : Name) (k : Len) (ns : List ℕ) → model.fits (param.Bytes a k) (arg.Bytes ns) ≡ true → has_length k (length ns) ≡ true
+bytes_length : (a : Name) (k : Len) (ns : List ℕ) → model.fits (param.Bytes a k) (arg.Bytes ns) ≡ true
+    → has_length k (length ns) ≡ true
 bytes_length a (Fixed n) ns fits = (and_parts (is_length (Some n) (length ns)) _ fits).0
 bytes_length a (Named x) ns fits = (and_parts (is_length None (length ns)) _ fits).0
 
-words_length : (a : Name) (k : Len) (ns : List ℕ) → model.fits (param.Words a k) (arg.Words ns) ≡ true → has_length k (length ns) ≡ true
+words_length : (a : Name) (k : Len) (ns : List ℕ) → model.fits (param.Words a k) (arg.Words ns) ≡ true
+    → has_length k (length ns) ≡ true
 words_length a (Fixed n) ns fits = (and_parts (is_length (Some n) (length ns)) _ fits).0
 words_length a (Named x) ns fits = (and_parts (is_length None (length ns)) _ fits).0
 
 -- an array parameter
-array_begun : (c end : Scope) (env : Env) (names : List Name) (args : List Arg) (a : Name) (u : Scalar) (k : Len) (ns : List ℕ) (v : Arg)
-    → (types.declare a (Many u k) c >>= (λ d. types.declare_length k d)) ≡ Ok end → has_length k (length ns) ≡ true → length ns ≤ array_limit → HasShape u (length ns) v
+array_begun : (c end : Scope) (env : Env) (names : List Name) (args : List Arg) (a : Name) (u : Scalar) (k : Len) (ns : List ℕ)
+    (v : Arg)
+    → (types.declare a (Many u k) c >>= (λ d. types.declare_length k d)) ≡ Ok end → has_length k (length ns) ≡ true
+    → length ns ≤ array_limit → HasShape u (length ns) v
     → Begun c env names args → Begun end (model.bind_length k (size ns) (put a v env)) (names ++ a ∷ []) (args ++ v ∷ [])
 array_begun c end env names args a u (Fixed n) ns v is fits small shape b =
     let first = first_answered (types.declare a (Many u (Fixed n)) c) _ end is in
@@ -258,21 +292,32 @@ param_begun : (p : Param) (v : Arg) (c end : Scope) (env : Env) (names : List Na
     → Begun end (model.bind_argument p v env) (names ++ param_name p ∷ []) (args ++ v ∷ [])
 param_begun (param.Word x) v c end env names args is fits small b =
     let parts = declare_is x (One Word) c end is in
-    subst (λ (z : Scope). Begun z (put x v env) (names ++ x ∷ []) (args ++ v ∷ [])) parts.1 (scalar_begun c env names args x Word v parts.0 b)
+    subst (λ (z : Scope). Begun z (put x v env) (names ++ x ∷ []) (args ++ v ∷ [])) parts.1
+    (scalar_begun c env names args x Word v parts.0 b)
 param_begun (param.Byte x) v c end env names args is fits small b =
     let parts = declare_is x (One Byte) c end is in
-    subst (λ (z : Scope). Begun z (put x v env) (names ++ x ∷ []) (args ++ v ∷ [])) parts.1 (scalar_begun c env names args x Byte v parts.0 b)
-param_begun (param.Bytes a k) (arg.Bytes ns) c end env names args is fits small b = array_begun c end env names args a Byte k ns (arg.Bytes ns) is (bytes_length a k ns fits) small refl b
+    subst (λ (z : Scope). Begun z (put x v env) (names ++ x ∷ []) (args ++ v ∷ [])) parts.1
+    (scalar_begun c env names args x Byte v parts.0 b)
+param_begun (param.Bytes a k) (arg.Bytes ns) c end env names args is fits small b =
+    array_begun c end env names args a Byte k ns (arg.Bytes ns) is (bytes_length a k ns fits) small refl b
 param_begun (param.Words a k) (arg.Words ns) c end env names args is fits small b =
     array_begun c end env names args a Word k ns (arg.Words ns) is (words_length a k ns fits) (omega (arith, small)) refl b
-param_begun (param.Bytes a (Fixed m)) (arg.Word n) c end env names args is fits small b = absurd (let bad : false ≡ true = fits in cc)
-param_begun (param.Bytes a (Named x)) (arg.Word n) c end env names args is fits small b = absurd (let bad : false ≡ true = fits in cc)
-param_begun (param.Bytes a (Fixed m)) (arg.Words ns) c end env names args is fits small b = absurd (let bad : false ≡ true = fits in cc)
-param_begun (param.Bytes a (Named x)) (arg.Words ns) c end env names args is fits small b = absurd (let bad : false ≡ true = fits in cc)
-param_begun (param.Words a (Fixed m)) (arg.Word n) c end env names args is fits small b = absurd (let bad : false ≡ true = fits in cc)
-param_begun (param.Words a (Named x)) (arg.Word n) c end env names args is fits small b = absurd (let bad : false ≡ true = fits in cc)
-param_begun (param.Words a (Fixed m)) (arg.Bytes ns) c end env names args is fits small b = absurd (let bad : false ≡ true = fits in cc)
-param_begun (param.Words a (Named x)) (arg.Bytes ns) c end env names args is fits small b = absurd (let bad : false ≡ true = fits in cc)
+param_begun (param.Bytes a (Fixed m)) (arg.Word n) c end env names args is fits small b =
+    absurd (let bad : false ≡ true = fits in cc)
+param_begun (param.Bytes a (Named x)) (arg.Word n) c end env names args is fits small b =
+    absurd (let bad : false ≡ true = fits in cc)
+param_begun (param.Bytes a (Fixed m)) (arg.Words ns) c end env names args is fits small b =
+    absurd (let bad : false ≡ true = fits in cc)
+param_begun (param.Bytes a (Named x)) (arg.Words ns) c end env names args is fits small b =
+    absurd (let bad : false ≡ true = fits in cc)
+param_begun (param.Words a (Fixed m)) (arg.Word n) c end env names args is fits small b =
+    absurd (let bad : false ≡ true = fits in cc)
+param_begun (param.Words a (Named x)) (arg.Word n) c end env names args is fits small b =
+    absurd (let bad : false ≡ true = fits in cc)
+param_begun (param.Words a (Fixed m)) (arg.Bytes ns) c end env names args is fits small b =
+    absurd (let bad : false ≡ true = fits in cc)
+param_begun (param.Words a (Named x)) (arg.Bytes ns) c end env names args is fits small b =
+    absurd (let bad : false ≡ true = fits in cc)
 
 all_begun : (ps : List Param) (vs : List Arg) (c end : Scope) (env : Env) (names : List Name) (args : List Arg)
     → types.declare_params ps c ≡ Ok end → AllFit ps vs → total_size vs ≤ array_limit → Begun c env names args
@@ -284,9 +329,12 @@ all_begun (p ∷ ps) (v ∷ vs) c end env names args is fit small b =
     let one = first_answered (types.declare_param p c) _ end is in
     let room = first_answered (types.registers one.0) _ end one.1.1 in
     let kept : one.0 ≡ room.0 = registers_is one.0 room.0 room.1.0 in
-    let here : Begun one.0 (model.bind_argument p v env) (names ++ param_name p ∷ []) (args ++ v ∷ []) = param_begun p v c one.0 env names args one.1.0 fit.0 (omega (arith, small)) b in
-    let all = all_begun ps vs room.0 end (model.bind_argument p v env) (names ++ param_name p ∷ []) (args ++ v ∷ []) room.1.1 fit.1 (omega (arith, small)) (rw (← kept) here) in
-    let names_are : names ++ (param_name p ∷ map param_name ps) ≡ (names ++ param_name p ∷ []) ++ map param_name ps = sym (append_assoc names (param_name p ∷ []) (map param_name ps)) in
+    let here : Begun one.0 (model.bind_argument p v env) (names ++ param_name p ∷ []) (args ++ v ∷ []) =
+    param_begun p v c one.0 env names args one.1.0 fit.0 (omega (arith, small)) b in
+    let all = all_begun ps vs room.0 end (model.bind_argument p v env) (names ++ param_name p ∷ []) (args ++ v ∷ []) room.1.1
+    fit.1 (omega (arith, small)) (rw (← kept) here) in
+    let names_are : names ++ (param_name p ∷ map param_name ps) ≡ (names ++ param_name p ∷ []) ++ map param_name ps =
+    sym (append_assoc names (param_name p ∷ []) (map param_name ps)) in
     let args_are : args ++ (v ∷ vs) ≡ (args ++ v ∷ []) ++ vs = sym (append_assoc args (v ∷ []) vs) in
     rw (names_are, args_are) all
 all_begun [] (v ∷ vs) c end env names args is fit small b = absurd fit
@@ -329,9 +377,11 @@ owner_same t u is = by (same_type t u) refl is
   where
     by : (test : Bool) → same_type t u ≡ test → owned t u ≡ Ok tt → t ≡ u
     by true e h = type_same t u e
-    by false e h = absurd (let bad : (if false then Ok tt else Err why.Owner) ≡ Ok tt = rw e at h in let worse : Err why.Owner ≡ Ok tt = bad in cc)
+    by false e h = absurd (let bad : (if false then Ok tt else Err why.Owner) ≡ Ok tt = rw e at h in let worse : Err why.Owner
+        ≡ Ok tt = bad in cc)
 
-result_typed : (start c : Scope) (before : List Ret) (a p : Name) → types.result start c before (ret.Array a p) ≡ Ok tt → SameArray start c a p
+result_typed : (start c : Scope) (before : List Ret) (a p : Name) → types.result start c before (ret.Array a p) ≡ Ok tt
+    → SameArray start c a p
 result_typed start c before a p is =
     let one = first_answered (array_in (look_up c a)) _ tt is in
     let once = first_answered (types.once (types.returned before) p) _ tt one.1.1 in
@@ -350,15 +400,23 @@ all_like start c begun env ps args k before (ret.Scalar x ∷ rets) is b shaped 
     all_like start c begun env ps args (next k) (before ++ ret.Scalar x ∷ []) rets one.1.1 b shaped
 all_like start c begun env ps args k before (ret.Array a p ∷ rets) is b shaped =
     let one = first_answered (types.at (Return k) (types.result start c before (ret.Array a p))) _ tt is in
-    let array = result_typed start c before a p (at_answered (Return k) (types.result start c before (ret.Array a p)) tt one.1.0) in
+    let array = result_typed start c before a p (at_answered (Return k) (types.result start c before (ret.Array a p)) tt one.1.0)
+    in
     let old = b.arrays p array.type array.length array.at_start in
     let new = shaped a array.type array.length array.at_end in
-    let like : IsLike old.value new.value = shapes_like array.type (len_of (numbers begun) array.length) old.value new.value old.shape new.shape in
-    let placed : IsLike (get_or args (number_among p (map param_name ps)) (arg.Word 0)) new.value = subst (λ (v : Arg). IsLike v new.value) (sym old.given) like in
-    let found : model.result_of env (ret.Array a p) ≡ new.value = ap (λ (o : Option Arg). elim o [ Some v ↦ v | None ↦ arg.Word 0 ]) new.held in
-    (subst (λ (v : Arg). IsLike (get_or args (number_among p (map param_name ps)) (arg.Word 0)) v) (sym found) placed, all_like start c begun env ps args (next k) (before ++ ret.Array a p ∷ []) rets one.1.1 b shaped)
+    let like : IsLike old.value new.value =
+    shapes_like array.type (len_of (numbers begun) array.length) old.value new.value old.shape new.shape in
+    let placed : IsLike (get_or args (number_among p (map param_name ps)) (arg.Word 0)) new.value =
+    subst (λ (v : Arg). IsLike v new.value) (sym old.given) like in
+    let found : model.result_of env (ret.Array a p)
+    ≡ new.value = ap (λ (o : Option Arg). elim o [ Some v ↦ v | None ↦ arg.Word 0 ]) new.held in (
+      subst (λ (v : Arg). IsLike (get_or args (number_among p (map param_name ps)) (arg.Word 0)) v) (sym found) placed,
+      all_like
+          start c begun env ps args (next k) (before ++ ret.Array a p ∷ []) rets one.1.1 b shaped,
+    )
 
-pub results_like : (m : Model) (args : List Arg) → Well m → Meets m args → total_size args ≤ array_limit → AreLike (map (result_place m.params) m.rets) args (results m args)
+pub results_like : (m : Model) (args : List Arg) → Well m → Meets m args → total_size args ≤ array_limit
+    → AreLike (map (result_place m.params) m.rets) args (results m args)
 results_like m args well meets small =
     let count = first_answered (model.counts m.params args) _ tt meets in
     let fit = first_answered (model.fit 0 m.params args) _ tt count.1.1 in
@@ -366,10 +424,13 @@ results_like m args well meets small =
     let start = first_answered (types.at Params (types.declare_params m.params [])) _ tt well in
     let required = first_answered (types.requirements 0 m.requires_ start.0) _ tt start.1.1 in
     let end = first_answered (types.in_turn (map types.stmt m.body) (0, start.0)) _ tt required.1.1 in
-    let declared : types.declare_params m.params [] ≡ Ok start.0 = at_answered Params (types.declare_params m.params []) start.0 start.1.0 in
+    let declared : types.declare_params m.params []
+    ≡ Ok start.0 = at_answered Params (types.declare_params m.params []) start.0 start.1.0 in
     let begun_env : Env = model.start m.params args [] in
-    let begun : Begun start.0 begun_env (map param_name m.params) args = all_begun m.params args [] start.0 [] [] [] declared all_fit small none_begun in
+    let begun : Begun start.0 begun_env (map param_name m.params) args =
+    all_begun m.params args [] start.0 [] [] [] declared all_fit small none_begun in
     let shaped : Shaped (numbers begun_env) start.0 begun_env =
     λ x t k found. let g = begun.arrays x t k found in record { value = g.value; held = g.held; shape = g.shape } in
-    let ended : Shaped (numbers begun_env) end.0.1 (model.end_of m args) = body_keeps (numbers begun_env) m.body 0 start.0 end.0 begun_env end.1.0 shaped in
+    let ended : Shaped (numbers begun_env) end.0.1 (model.end_of m args) =
+    body_keeps (numbers begun_env) m.body 0 start.0 end.0 begun_env end.1.0 shaped in
     all_like start.0 end.0.1 begun_env (model.end_of m args) m.params args 0 [] m.rets end.1.1 begun ended

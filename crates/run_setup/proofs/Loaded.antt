@@ -1,5 +1,6 @@
 -- The state that a run starts from is ready.
-use Rattle.std.proofs.Common.{◌≡◌, refl, sym, ◌∙◌, ap, subst, arith, ℕ, suc, ◌+◌, ◌-◌, ◌*◌, ◌%◌, ◌<◌, ◌≤◌, true, false, List, [], ◌∷◌, ◌++◌, length, map, get_or, Some, None, replicate, set, length-set, ◌^◌}
+use Rattle.std.proofs.Common.{◌≡◌, refl, sym, ◌∙◌, ap, subst, arith, ℕ, suc, ◌+◌, ◌-◌, ◌*◌, ◌%◌, ◌<◌, ◌≤◌, true, false, List, []}
+use Rattle.std.proofs.Common.{◌∷◌, ◌++◌, length, map, get_or, Some, None, replicate, set, length-set, ◌^◌}
 use Rattle.std.specs.Prelude.{slice_get, slice_set}
 use Rattle.std.specs.List.{AllByRecursion}
 use Rattle.std.proofs.lemmas.List.{length-replicate, get_or-set_same, get_or-set_other}
@@ -16,11 +17,13 @@ use Rattle.rv_machine.specs.State.{State, register}
 use Rattle.rv_memory.specs.Ranges.{Bytes, Range, IsMapped, Apart, AllApart, Stands}
 use Rattle.run_setup.specs.Arguments.{bytes_of_words, array_limit}
 use Rattle.run_setup.specs.Judging.{total_size}
-use Rattle.run_setup.specs.Loading.{base, return_address, aligned, end_of, array_regions, argument_values, image_end, stack_start, regions, registers, start_state}
+use Rattle.run_setup.specs.Loading.{base, return_address, aligned, end_of, array_regions, argument_values, image_end, stack_start}
+use Rattle.run_setup.specs.Loading.{regions, registers, start_state}
 use Rattle.run_setup.specs.Ready.{image_range, stack_range, array_ranges, HasArguments, ranges, Ready}
 use Rattle.rv_machine.specs.Machines.{IsMachine}
 use Rattle.run_setup.specs.Laws.{LoadedIsReady}
-use Rattle.run_setup.proofs.Memory.{Region, all_map, all_both, all_split, all_of_map, all_stand, range_of, mapped, set_before, set_there}
+use Rattle.run_setup.proofs.Memory.{Region, all_map, all_both, all_split, all_of_map, all_stand, range_of, mapped, set_before}
+use Rattle.run_setup.proofs.Memory.{set_there}
 use Rattle.image_layout.proofs.laws.Length.{params_most, image_small}
 use Rattle.run_setup.proofs.laws.Places.{words_size, aligned_near, aligned_whole, end_bound, end_grows, arrays_rise, values_few}
 use Rattle.run_setup.proofs.laws.Meeting.{AllOfKind, fitting}
@@ -42,10 +45,12 @@ second_held : (s : State) (r v w : ℕ) (vs : List ℕ) → Hold s r (v ∷ w �
 second_held s r v w vs held = held 1 w refl
 
 pub rest_held : (s : State) (r v : ℕ) (vs : List ℕ) → Hold s r (v ∷ vs) → Hold s (r + 1) vs
-rest_held s r v vs held k w is = let place : r + 1 + k ≡ r + suc k = omega arith in ap (λ q. register s.regs q) place ∙ held (suc k) w is
+rest_held s r v vs held k w is = let place : r + 1 + k ≡ r + suc k = omega arith in
+    ap (λ q. register s.regs q) place ∙ held (suc k) w is
 
 pub rest_held_2 : (s : State) (r v w : ℕ) (vs : List ℕ) → Hold s r (v ∷ w ∷ vs) → Hold s (r + 2) vs
-rest_held_2 s r v w vs held k x is = let place : r + 2 + k ≡ r + suc (suc k) = omega arith in ap (λ q. register s.regs q) place ∙ held (suc (suc k)) x is
+rest_held_2 s r v w vs held k x is = let place : r + 2 + k ≡ r + suc (suc k) = omega arith in
+    ap (λ q. register s.regs q) place ∙ held (suc (suc k)) x is
 
 abbrev pub AllStand : Bytes → List Region → Type 0
 AllStand mem rs = AllByRecursion (λ q. Stands mem q.0 q.1) rs
@@ -61,10 +66,16 @@ has_arguments : (kinds : List Kind) (args : List Arg) (end r : ℕ) (s : State) 
 has_arguments [] [] end r s fit held stand = tt
 has_arguments [] (a ∷ args) end r s fit held stand = absurd fit
 has_arguments (k ∷ kinds) [] end r s fit held stand = absurd fit
-has_arguments (kind.Word ∷ kinds) (arg.Word n ∷ args) end r s fit held stand =
-    (first_held s r n (argument_values end kinds args) held, has_arguments kinds args end (r + 1) s fit.1 (rest_held s r n (argument_values end kinds args) held) stand)
-has_arguments (kind.Byte ∷ kinds) (arg.Word n ∷ args) end r s fit held stand =
-    (first_held s r n (argument_values end kinds args) held, has_arguments kinds args end (r + 1) s fit.1 (rest_held s r n (argument_values end kinds args) held) stand)
+has_arguments (kind.Word ∷ kinds) (arg.Word n ∷ args) end r s fit held stand = (
+  first_held s r n (argument_values end kinds args) held,
+  has_arguments kinds args end (r + 1) s fit.1
+      (rest_held s r n (argument_values end kinds args) held) stand,
+)
+has_arguments (kind.Byte ∷ kinds) (arg.Word n ∷ args) end r s fit held stand = (
+  first_held s r n (argument_values end kinds args) held,
+  has_arguments kinds args end (r + 1) s fit.1
+      (rest_held s r n (argument_values end kinds args) held) stand,
+)
 has_arguments (kind.Bytes None ∷ kinds) (arg.Bytes bytes ∷ args) end r s fit held stand =
     let next = aligned end + length bytes in
     let more = argument_values next kinds args in
@@ -83,14 +94,24 @@ has_arguments (kind.Words None ∷ kinds) (arg.Words words ∷ args) end r s fit
     let next = aligned end + 4 * length words in
     let more = argument_values next kinds args in
     let place : register s.regs r ≡ aligned end = first_held s r (aligned end) (length words ∷ more) held in (
-      (subst (λ (at : ℕ). Stands s.mem at (bytes_of_words words)) (sym place) stand.0, ap (λ (at : ℕ). at % 4) place ∙ quarter end, second_held s r (aligned end) (length words) more held),
+      (
+        subst (λ (at : ℕ). Stands s.mem at (bytes_of_words words)) (sym place) stand.0,
+        ap (λ (at : ℕ). at % 4) place
+            ∙ quarter end,
+        second_held s r (aligned end) (length words) more held,
+      ),
       has_arguments kinds args next (r + 2) s fit.1 (rest_held_2 s r (aligned end) (length words) more held) stand.1,
     )
 has_arguments (kind.Words (Some n) ∷ kinds) (arg.Words words ∷ args) end r s fit held stand =
     let next = aligned end + 4 * length words in
     let more = argument_values next kinds args in
     let place : register s.regs r ≡ aligned end = first_held s r (aligned end) more held in (
-      (subst (λ (at : ℕ). Stands s.mem at (bytes_of_words words)) (sym place) stand.0, ap (λ (at : ℕ). at % 4) place ∙ quarter end, tt),
+      (
+        subst (λ (at : ℕ). Stands s.mem at (bytes_of_words words)) (sym place) stand.0,
+        ap (λ (at : ℕ). at % 4) place
+            ∙ quarter end,
+        tt,
+      ),
       has_arguments kinds args next (r + 1) s fit.1 (rest_held s r (aligned end) more held) stand.1,
     )
 has_arguments (kind.Word ∷ kinds) (arg.Bytes bytes ∷ args) end r s fit held stand = no_fit fit.0
@@ -108,8 +129,10 @@ ranges_are : (kinds : List Kind) (args : List Arg) (end r : ℕ) (s : State) →
 ranges_are [] [] end r s fit held = refl
 ranges_are [] (a ∷ args) end r s fit held = absurd fit
 ranges_are (k ∷ kinds) [] end r s fit held = absurd fit
-ranges_are (kind.Word ∷ kinds) (arg.Word n ∷ args) end r s fit held = ranges_are kinds args end (r + 1) s fit.1 (rest_held s r n (argument_values end kinds args) held)
-ranges_are (kind.Byte ∷ kinds) (arg.Word n ∷ args) end r s fit held = ranges_are kinds args end (r + 1) s fit.1 (rest_held s r n (argument_values end kinds args) held)
+ranges_are (kind.Word ∷ kinds) (arg.Word n ∷ args) end r s fit held =
+    ranges_are kinds args end (r + 1) s fit.1 (rest_held s r n (argument_values end kinds args) held)
+ranges_are (kind.Byte ∷ kinds) (arg.Word n ∷ args) end r s fit held =
+    ranges_are kinds args end (r + 1) s fit.1 (rest_held s r n (argument_values end kinds args) held)
 ranges_are (kind.Bytes None ∷ kinds) (arg.Bytes bytes ∷ args) end r s fit held =
     let next = aligned end + length bytes in
     let more = argument_values next kinds args in
@@ -144,7 +167,8 @@ ranges_are (kind.Words n ∷ kinds) (arg.Bytes bytes ∷ args) end r s fit held 
 abbrev pub Between : ℕ → ℕ → Region → Type 0
 Between low high q = (low ≤ q.0) × (q.0 + length q.1 ≤ high)
 
-wider : (low end high : ℕ) (rs : List Region) → low ≤ end → AllByRecursion (Between end high) rs → AllByRecursion (Between low high) rs
+wider : (low end high : ℕ) (rs : List Region) → low ≤ end → AllByRecursion (Between end high) rs
+    → AllByRecursion (Between low high) rs
 wider low end high rs less all = all_map (Between end high) (Between low high) (λ q h. (omega (arith, less, h.0), h.1)) rs all
 
 pub arrays_between : (end : ℕ) (args : List Arg) → AllByRecursion (Between end (end_of end args)) (array_regions end args)
@@ -152,27 +176,40 @@ arrays_between end [] = tt
 arrays_between end (arg.Word n ∷ args) = arrays_between end args
 arrays_between end (arg.Bytes bytes ∷ args) =
     let next = aligned end + length bytes in
-    let near : end ≤ aligned end = (aligned_near end).0 in
-    ((near, end_grows next args), wider end next (end_of next args) (array_regions next args) (omega (arith, near)) (arrays_between next args))
+    let near : end ≤ aligned end = (aligned_near end).0 in (
+      (near, end_grows next args),
+      wider end next (end_of next args) (array_regions next args) (omega (arith, near))
+          (arrays_between next args),
+    )
 arrays_between end (arg.Words words ∷ args) =
     let next = aligned end + 4 * length words in
-    let near : end ≤ aligned end = (aligned_near end).0 in
-    ((near, omega (arith, end_grows next args, words_size words)), wider end next (end_of next args) (array_regions next args) (omega (arith, near)) (arrays_between next args))
+    let near : end ≤ aligned end = (aligned_near end).0 in (
+      (near, omega (arith, end_grows next args, words_size words)),
+      wider end next (end_of next args) (array_regions next args)
+          (omega (arith, near)) (arrays_between next args),
+    )
 
-apart_from : (r : Region) (low high : ℕ) (rs : List Region) → r.0 + length r.1 ≤ low → AllByRecursion (Between low high) rs → AllByRecursion (Apart (range_of r)) (map range_of rs)
+apart_from : (r : Region) (low high : ℕ) (rs : List Region) → r.0 + length r.1 ≤ low → AllByRecursion (Between low high) rs
+    → AllByRecursion (Apart (range_of r)) (map range_of rs)
 apart_from r low high rs before all =
     all_of_map range_of (Apart (range_of r)) rs
-    (all_map (Between low high) (λ q. Apart (range_of r) (range_of q)) (λ q h address here there. omega (arith, before, h.0, here.1, there.0)) rs all)
+    (all_map (Between low high) (λ q. Apart (range_of r) (range_of q))
+    (λ q h address here there. omega (arith, before, h.0, here.1, there.0)) rs all)
 
 arrays_apart : (end : ℕ) (args : List Arg) → AllApart (map range_of (array_regions end args))
 arrays_apart end [] = tt
 arrays_apart end (arg.Word n ∷ args) = arrays_apart end args
 arrays_apart end (arg.Bytes bytes ∷ args) =
-    let next = aligned end + length bytes in
-    (apart_from (aligned end, bytes) next (end_of next args) (array_regions next args) (omega arith) (arrays_between next args), arrays_apart next args)
+    let next = aligned end + length bytes in (
+      apart_from (aligned end, bytes) next (end_of next args) (array_regions next args) (omega arith) (arrays_between next args),
+      arrays_apart next args,
+    )
 arrays_apart end (arg.Words words ∷ args) =
-    let next = aligned end + 4 * length words in
-    (apart_from (aligned end, bytes_of_words words) next (end_of next args) (array_regions next args) (omega (arith, words_size words)) (arrays_between next args), arrays_apart next args)
+    let next = aligned end + 4 * length words in (
+      apart_from (aligned end, bytes_of_words words) next (end_of next args) (array_regions next args)
+          (omega (arith, words_size words)) (arrays_between next args),
+      arrays_apart next args,
+    )
 
 -- The state.
 
@@ -186,17 +223,20 @@ abbrev base_registers : ℕ → List ℕ
 base_registers sp = slice_set (slice_set (replicate 32 0) 1 return_address) 2 sp
 
 base_length : (sp : ℕ) → length (base_registers sp) ≡ 32
-base_length sp = length-set (set (replicate 32 0) 1 return_address) 2 sp ∙ length-set (replicate 32 0) 1 return_address ∙ length-replicate {A = ℕ} 32 0
+base_length sp = length-set (set (replicate 32 0) 1 return_address) 2 sp ∙ length-set (replicate 32 0) 1 return_address
+    ∙ length-replicate {A = ℕ} 32 0
 
 base_sp : (sp : ℕ) → get_or (base_registers sp) 2 0 ≡ sp
-base_sp sp = get_or-set_same (set (replicate 32 0) 1 return_address) 2 sp 0 (omega (arith, length-set (replicate 32 0) 1 return_address, length-replicate {A = ℕ} 32 0))
+base_sp sp = get_or-set_same (set (replicate 32 0) 1 return_address) 2 sp 0
+    (omega (arith, length-set (replicate 32 0) 1 return_address, length-replicate {A = ℕ} 32 0))
 
 base_ra : (sp : ℕ) → get_or (base_registers sp) 1 0 ≡ return_address
 base_ra sp =
     get_or-set_other (set (replicate 32 0) 1 return_address) 2 1 sp 0 (omega arith)
     ∙ get_or-set_same (replicate 32 0) 1 return_address 0 (omega (arith, length-replicate {A = ℕ} 32 0))
 
-module _ (i : Image) (args : List Arg) (limits : image.IsWithinLimits i) (fit : AllOfKind i.params args) (small : total_size args ≤ array_limit) where
+module _ (i : Image) (args : List Arg) (limits : image.IsWithinLimits i) (fit : AllOfKind i.params args)
+    (small : total_size args ≤ array_limit) where
   abbrev state : State
   state = start_state i args
 
@@ -211,11 +251,13 @@ module _ (i : Image) (args : List Arg) (limits : image.IsWithinLimits i) (fit : 
 
   pub sp_is : register state.regs 2 ≡ stack_start i args + i.stack
   unfolding registers
-  sp_is = set_before (base_registers (stack_start i args + i.stack)) 10 (argument_values (image_end i) i.params args) 2 (omega arith) ∙ base_sp (stack_start i args + i.stack)
+  sp_is = set_before (base_registers (stack_start i args + i.stack)) 10 (argument_values (image_end i) i.params args) 2
+      (omega arith) ∙ base_sp (stack_start i args + i.stack)
 
   pub ra_is : register state.regs 1 ≡ return_address
   unfolding registers
-  ra_is = set_before (base_registers (stack_start i args + i.stack)) 10 (argument_values (image_end i) i.params args) 1 (omega arith) ∙ base_ra (stack_start i args + i.stack)
+  ra_is = set_before (base_registers (stack_start i args + i.stack)) 10 (argument_values (image_end i) i.params args) 1
+      (omega arith) ∙ base_ra (stack_start i args + i.stack)
 
   pub registers_hold : Hold state 10 (argument_values (image_end i) i.params args)
   unfolding registers
@@ -224,10 +266,12 @@ module _ (i : Image) (args : List Arg) (limits : image.IsWithinLimits i) (fit : 
       ∙ set_there (base_registers (stack_start i args + i.stack)) 10 (argument_values (image_end i) i.params args) k v
       (omega (arith, base_length (stack_start i args + i.stack), values_few (image_end i) i.params args, few)) is
 
-  regions_stand : AllByRecursion (λ r. (base ≤ r.0) × Stands state.mem r.0 r.1) ((base, image.spelling i) ∷ (arrays ++ stack ∷ []))
+  regions_stand : AllByRecursion (λ r. (base ≤ r.0) × Stands state.mem r.0 r.1)
+      ((base, image.spelling i) ∷ (arrays ++ stack ∷ []))
   unfolding regions
   regions_stand =
-      all_stand base ((base, image.spelling i) ∷ (arrays ++ stack ∷ [])) (omega arith, arrays_rise (image_end i) args (image_end i) (replicate i.stack 0) (omega arith))
+      all_stand base ((base, image.spelling i) ∷ (arrays ++ stack ∷ []))
+      (omega arith, arrays_rise (image_end i) args (image_end i) (replicate i.stack 0) (omega arith))
 
   image_stands : Stands state.mem base (image.spelling i)
   image_stands = regions_stand.0.1
@@ -242,7 +286,15 @@ module _ (i : Image) (args : List Arg) (limits : image.IsWithinLimits i) (fit : 
 
   pub near : stack_start i args + i.stack ≤ 2 ^ 28
   near =
-      omega (arith, image_small i limits, end_bound (image_end i) args, (aligned_near (end_of (image_end i) args)).1, few, small, limits.stack_most)
+      omega (
+        arith,
+        image_small i limits,
+        end_bound (image_end i) args,
+        (aligned_near (end_of (image_end i) args)).1,
+        few,
+        small,
+        limits.stack_most,
+      )
 
   stack_is : stack_range i state ≡ range_of stack
   stack_is =
@@ -253,7 +305,8 @@ module _ (i : Image) (args : List Arg) (limits : image.IsWithinLimits i) (fit : 
   ranges_is : ranges i args base state ≡ range_of (base, image.spelling i) ∷ range_of stack ∷ map range_of arrays
   ranges_is =
       ap (λ (r : Range). image_range i base ∷ r ∷ array_ranges i.params args 10 state) stack_is
-      ∙ ap (λ (rs : List Range). image_range i base ∷ range_of stack ∷ rs) (ranges_are i.params args (image_end i) 10 state fit registers_hold)
+      ∙ ap (λ (rs : List Range). image_range i base ∷ range_of stack ∷ rs)
+      (ranges_are i.params args (image_end i) 10 state fit registers_hold)
 
   behind_arrays : end_of (image_end i) args ≤ stack_start i args
   behind_arrays = (aligned_near (end_of (image_end i) args)).0
@@ -268,9 +321,11 @@ module _ (i : Image) (args : List Arg) (limits : image.IsWithinLimits i) (fit : 
         (
           mapped state.mem stack stack_stands (omega (arith, near, stack_size)),
           all_of_map range_of (IsMapped state.mem) arrays
-              (all_map (λ q. Stands state.mem q.0 q.1 × Between (image_end i) (end_of (image_end i) args) q) (λ q. IsMapped state.mem (range_of q))
+              (all_map (λ q. Stands state.mem q.0 q.1 × Between (image_end i) (end_of (image_end i) args) q)
+              (λ q. IsMapped state.mem (range_of q))
               (λ q h. mapped state.mem q h.0 (omega (arith, h.1.1, behind_arrays, near))) arrays
-              (all_both (λ q. Stands state.mem q.0 q.1) (Between (image_end i) (end_of (image_end i) args)) arrays arrays_stand (arrays_between (image_end i) args))),
+              (all_both (λ q. Stands state.mem q.0 q.1) (Between (image_end i) (end_of (image_end i) args)) arrays arrays_stand
+              (arrays_between (image_end i) args))),
         ),
       )
 
@@ -285,7 +340,8 @@ module _ (i : Image) (args : List Arg) (limits : image.IsWithinLimits i) (fit : 
       subst AllApart (sym ranges_is) (
         (
           λ address here there. omega (arith, end_grows (image_end i) args, behind_arrays, here.1, there.0),
-          apart_from (base, image.spelling i) (image_end i) (end_of (image_end i) args) arrays (omega arith) (arrays_between (image_end i) args),
+          apart_from (base, image.spelling i) (image_end i) (end_of (image_end i) args) arrays (omega arith)
+              (arrays_between (image_end i) args),
         ),
         (stack_apart, arrays_apart (image_end i) args),
       )

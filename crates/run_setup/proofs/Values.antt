@@ -1,5 +1,6 @@
 -- The values of forms, and their bounds.
-use Rattle.std.proofs.Common.{◌≡◌, ℕ, suc, ◌+◌, ◌*◌, ◌^◌, ◌<◌, ◌≤◌, List, length, drop, Some, ℤ, pos, negsuc, slice_get, SFits, Fits, ap, add-one, drop-cons, arith}
+use Rattle.std.proofs.Common.{◌≡◌, ℕ, suc, ◌+◌, ◌*◌, ◌^◌, ◌<◌, ◌≤◌, List, length, drop, Some, ℤ, pos, negsuc, slice_get, SFits}
+use Rattle.std.proofs.Common.{Fits, ap, add-one, drop-cons, arith}
 use Rattle.std.specs.Prelude.{◌+ℤ◌, ◌*ℤ◌, ◌≤ℤ◌, nat_abs}
 use Rattle.std.specs.Int.{w64}
 use Rattle.std.proofs.Math.Facts.{Fits-nat_abs}
@@ -13,7 +14,8 @@ bounds (pos k) n h = (omega (arith, ints), omega (arith, ints))
 bounds (negsuc k) n h = (omega (arith, ints), omega (arith, ints))
 
 -- a coefficient of 64 bits times a word
-pub product_bounds : (z : ℤ) (v : ℕ) → SFits w64 z → v < 2 ^ 32 → (negsuc (2 ^ 96) ≤ℤ (z *ℤ pos v)) × ((z *ℤ pos v) ≤ℤ pos (2 ^ 96))
+pub product_bounds : (z : ℤ) (v : ℕ) → SFits w64 z → v < 2 ^ 32
+    → (negsuc (2 ^ 96) ≤ℤ (z *ℤ pos v)) × ((z *ℤ pos v) ≤ℤ pos (2 ^ 96))
 product_bounds z v fits small =
     let size : Fits w64 (nat_abs z) = Fits-nat_abs tt fits in
     let below : nat_abs z ≤ 2 ^ 64 = omega (arith, size) in
@@ -26,4 +28,5 @@ pub terms_step : (numbers : ℕ → ℕ) (ts : List (ℕ × ℤ)) (k : ℕ) (t :
     → terms_at numbers (drop k ts) ≡ (t.1 *ℤ pos (numbers t.0)) +ℤ terms_at numbers (drop (k + 1) ts)
 terms_step numbers ts k t e =
     let within : k < length ts = slice_get_within ts k t e in
-    rw (drop-cons ts k t, add-one) (ap (λ (u : ℕ × ℤ). (u.1 *ℤ pos (numbers u.0)) +ℤ terms_at numbers (drop (suc k) ts)) (get_or_from_slice_get ts k t t e))
+    rw (drop-cons ts k t, add-one)
+    (ap (λ (u : ℕ × ℤ). (u.1 *ℤ pos (numbers u.0)) +ℤ terms_at numbers (drop (suc k) ts)) (get_or_from_slice_get ts k t t e))

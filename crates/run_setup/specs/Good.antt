@@ -1,16 +1,15 @@
 -- The theorem that an image carries for its model: called on any state that is ready, it returns within its stated
 -- steps with the model's value, and changes nothing else.
-use Rattle.std.specs.Prelude.{◌≡◌, ◌≢◌, ℕ, ◌+◌, ◌≤◌, ◌<◌, List, [], ◌∷◌, map, take, Option, Some, None, Ok, IsSome, IfOk, ◌↔◌, ◌⊎◌, pos, sum_by, slice_index_or, if◌then◌else◌, ⊤}
+use Rattle.std.specs.Prelude.{◌≡◌, ◌≢◌, ℕ, ◌+◌, ◌≤◌, ◌<◌, List, [], ◌∷◌, map, take, Option, Some, None, Ok, IsSome, IfOk, ◌↔◌}
+use Rattle.std.specs.Prelude.{◌⊎◌, pos, sum_by, slice_index_or, if◌then◌else◌, ⊤}
 use Rattle.std.specs.FinMap.{get}
 use Rattle.rup_base.specs.declared.arg.Kind.{Kind}
 use Rattle.rup_base.specs.declared.arg.Arg.{Arg}
 use Rattle.rup_base.specs.declared.arg.Arg.TheVariants as arg
-use Rattle.side_certs.specs.LinearForm.{LinearForm, constant, symbol, plus, minus, times}
+use Rattle.side_certs.specs.LinearForm.{LinearForm, symbol}
 use Rattle.cost_poly.specs.Polynomial.{at}
 use Rattle.image_layout.specs.declared.image.Image.{Image}
 use Rattle.image_layout.specs.Spelling.{registers_of}
-use Rattle.model_syntax.specs.declared.stmt.Lin.{Lin, Lin-F, fold-Lin}
-use Rattle.model_syntax.specs.declared.stmt.Lin.TheOpen as l
 use Rattle.model_syntax.specs.declared.stmt.Le.{Le}
 use Rattle.model_syntax.specs.declared.program.Param.{Param}
 use Rattle.model_syntax.specs.declared.program.Model.{Model}
@@ -18,6 +17,7 @@ use Rattle.model_syntax.specs.Entries.{entry_names, number_among, result_place}
 use Rattle.model_syntax.specs.Names.{Name}
 use Rattle.model_syntax.specs.Types.{kind_of}
 use Rattle.model_syntax.specs.Value.{value}
+use Rattle.sym_heap.specs.Sides.{difference}
 use Rattle.rv_machine.specs.State.{State, register}
 use Rattle.rv_machine.specs.Machines.{IsSaved}
 use Rattle.rv_machine.specs.Step.{after}
@@ -27,19 +27,13 @@ use Rattle.rv_memory.specs.Ranges.{Within, Stands}
 
 -- The parameters, requirements and results of a model, as an image has them.
 
--- a side of a requirement as a form over the entry symbols
-abbrev pub side_step : Lin-F (List Name → LinearForm) → List Name → LinearForm
-side_step (l.Const n) names = constant (pos n)
-side_step (l.Var x) names = symbol (number_among x names)
-side_step (l.Sum p q) names = plus (p names) (q names)
-side_step (l.Scale k p) names = times (pos k) (p names)
+-- the form of an entry: its symbol
+abbrev pub entry_form : List Param → Name → LinearForm
+entry_form ps x = symbol (number_among x (entry_names ps))
 
-abbrev pub side : Lin → List Name → LinearForm
-side = fold-Lin (List Name → LinearForm) side_step
-
--- the high side less the low one
+-- a requirement as a form over the entry symbols: the high side less the low one
 abbrev pub requirement : List Param → Le → LinearForm
-requirement ps r = minus (side r.high (entry_names ps)) (side r.low (entry_names ps))
+requirement ps r = difference (entry_form ps) r
 
 -- The call.
 
@@ -80,7 +74,8 @@ pub record Returns (m : Model) (i : Image) (args : List Arg) (base : ℕ) (s : S
   pub has_results : IfOk (value m args) (λ results. HasResults i.params i.rets results 10 s end)
   pub saved : (r : ℕ) → IsSaved r → register end.regs r ≡ register s.regs r
   pub same_addresses : (address : ℕ) → IsSome (get end.mem address) ↔ IsSome (get s.mem address)
-  pub others : (address : ℕ) → (Within (stack_range i s) address → ⊥) → (Returned i.params i.rets args s address → ⊥) → get end.mem address ≡ get s.mem address
+  pub others : (address : ℕ) → (Within (stack_range i s) address → ⊥) → (Returned i.params i.rets args s address → ⊥)
+      → get end.mem address ≡ get s.mem address
 
 pub record Good (m : Model) (i : Image) : Type 0 where
   pub params_are : i.params ≡ map kind_of m.params

@@ -1,6 +1,7 @@
 -- When an image may be called with arguments, and the first fault of the others: their count, a parameter, the size
 -- of their arrays, a requirement.
-use Rattle.std.specs.Prelude.{ℕ, ◌+◌, ◌-◌, ◌*◌, ◌^◌, Bool, nat_eq, nat_le, min, List, [], ◌∷◌, ◌++◌, length, None, Result, Ok, Err, pos, int_le, slice_index_or, if◌then◌else◌}
+use Rattle.std.specs.Prelude.{ℕ, ◌+◌, ◌-◌, ◌*◌, ◌^◌, Bool, nat_eq, nat_le, min, List, [], ◌∷◌, ◌++◌, length, None, Result, Ok}
+use Rattle.std.specs.Prelude.{Err, pos, int_le, slice_index_or, if◌then◌else◌}
 use Rattle.rup_base.specs.declared.arg.Kind.{Kind}
 use Rattle.rup_base.specs.declared.arg.Kind.TheVariants as kind
 use Rattle.rup_base.specs.declared.arg.Arg.{Arg}

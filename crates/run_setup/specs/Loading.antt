@@ -1,6 +1,7 @@
 -- The state that a run starts from: the image at 0x00010000, then the arrays in order, each at the next multiple of
 -- 16, then the stack bytes from the next multiple of 16.
-use Rattle.std.specs.Prelude.{◌≡◌, ℕ, ◌+◌, ◌*◌, ◌^◌, ◌<◌, slice_index_or, List, [], ◌∷◌, ◌++◌, length, replicate, Result, Ok, Err, slice_set}
+use Rattle.std.specs.Prelude.{◌≡◌, ℕ, ◌+◌, ◌*◌, ◌^◌, ◌<◌, slice_index_or, List, [], ◌∷◌, ◌++◌, length, replicate, Result, Ok, Err}
+use Rattle.std.specs.Prelude.{slice_set}
 use Rattle.std.specs.Int.{next_multiple_of}
 use Rattle.rup_base.specs.declared.arg.Kind.{Kind}
 use Rattle.rup_base.specs.declared.arg.Arg.{Arg}

@@ -1,5 +1,6 @@
 -- How the words of a command line are read as arguments, over files that may be told or not.
-use Rattle.std.specs.Prelude.{◌≡◌, ◌≢◌, ◌⊎◌, ℕ, ◌+◌, ◌-◌, ◌<◌, ◌≤◌, List, [], ◌∷◌, length, take, Option, Some, None, Result, Ok, Err, slice_get, nat_eq, if◌then◌else◌, ⊤}
+use Rattle.std.specs.Prelude.{◌≡◌, ◌≢◌, ◌⊎◌, ℕ, ◌+◌, ◌-◌, ◌<◌, ◌≤◌, List, [], ◌∷◌, length, take, Option, Some, None, Result, Ok}
+use Rattle.std.specs.Prelude.{Err, slice_get, nat_eq, if◌then◌else◌, ⊤}
 use Rattle.rup_base.specs.declared.arg.Kind.{Kind}
 use Rattle.rup_base.specs.declared.arg.Arg.{Arg}
 use Rattle.rup_base.specs.declared.refusal.ArgFault.{ArgFault}
@@ -23,7 +24,8 @@ Files = Option (List (List ℕ × List ℕ))
 
 -- a file of this name, where files are told, has so many bytes at most, and gives this for the parameter
 abbrev pub FileGives : Files → Kind → List ℕ → Option Arg → Type 0
-FileGives held kind text given = (bytes : List ℕ) × Holds held text bytes × (length bytes ≤ array_limit) × (array_of kind bytes ≡ given)
+FileGives held kind text given = (bytes : List ℕ) × Holds held text bytes × (length bytes ≤ array_limit)
+    × (array_of kind bytes ≡ given)
 
 abbrev pub FileIsTooLong : Files → List ℕ → Type 0
 FileIsTooLong held text = (bytes : List ℕ) × Holds held text bytes × (array_limit < length bytes)
@@ -60,7 +62,8 @@ AllGive held (kind ∷ kinds) (text ∷ texts) (a ∷ args) = Gives held kind te
 AllGive held kinds texts args = ⊥
 
 -- the words before number k give arguments, and word k, at place first + k, answers this
-pub record ComesTo (held : Files) (first : ℕ) (kinds : List Kind) (texts : List (List ℕ)) (k : ℕ) (answer : Result Arg ArgsFail) : Type 0 where
+pub record ComesTo (held : Files) (first : ℕ) (kinds : List Kind) (texts : List (List ℕ)) (k : ℕ) (answer : Result Arg ArgsFail) :
+    Type 0 where
   pub args : List Arg
   pub kind : Kind
   pub text : List ℕ
@@ -99,7 +102,8 @@ name_from first texts at = slice_get texts (at - first)
 
 -- a read fault comes only where the count of faults rose, and the last name is that of the word at its place; every
 -- other answer leaves both as they were
-abbrev pub HasCause : {A : Type 0} → ℕ → ℕ → Option (List ℕ) → Option (List ℕ) → (ℕ → Option (List ℕ)) → Result A ArgsFail → Type 0
+abbrev pub HasCause : {A : Type 0} → ℕ → ℕ → Option (List ℕ) → Option (List ℕ) → (ℕ → Option (List ℕ)) → Result A ArgsFail
+    → Type 0
 HasCause before now last last_now name (Ok a) = (now ≡ before) × (last_now ≡ last)
 HasCause before now last last_now name (Err (Refused refusal)) = (now ≡ before) × (last_now ≡ last)
 HasCause before now last last_now name (Err (ReadFault at)) = (before ≤ now) × Rose before now × (last_now ≡ name at)

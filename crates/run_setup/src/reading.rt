@@ -47,7 +47,8 @@ pub fn read_args<F: Files>(
     requires places { first + length kinds.now < 2 ^ 32 }
     ensures held { F.held files.new ≡ F.held files.old }
     ensures reads { spec.ReadsAll (F.held files.old) first kinds.now (drop first (map string_bytes words.now)) result }
-    ensures cause { spec.HasCause (F.faults files.old) (F.faults files.new) (F.last files.old) (F.last files.new) (slice_get (map string_bytes words.now)) result }
+    ensures cause { spec.HasCause (F.faults files.old) (F.faults files.new) (F.last files.old) (F.last files.new)
+        (slice_get (map string_bytes words.now)) result }
 {
     let given = &words[first as usize..];
     if given.len() != kinds.len() {
@@ -68,7 +69,8 @@ fn read_each<F: Files>(
     requires places { first + length kinds.now < 2 ^ 32 }
     ensures held { F.held files.new ≡ F.held files.old }
     ensures reads { spec.ReadsEach (F.held files.old) first kinds.now (map string_bytes words.now) result }
-    ensures cause { spec.HasCause (F.faults files.old) (F.faults files.new) (F.last files.old) (F.last files.new) (spec.name_from first (map string_bytes words.now)) result }
+    ensures cause { spec.HasCause (F.faults files.old) (F.faults files.new) (F.last files.old) (F.last files.new)
+        (spec.name_from first (map string_bytes words.now)) result }
 {
     let mut args = List::new(alloc);
     for k in 0..kinds.len() {
@@ -99,7 +101,8 @@ fn read_one<F: Files>(
 ) -> Result<Arg, ArgsFail>
     ensures held { F.held files.new ≡ F.held files.old }
     ensures reads { spec.ReadsOne (F.held files.old) place k kind word.now result }
-    ensures cause { spec.HasCause (F.faults files.old) (F.faults files.new) (F.last files.old) (F.last files.new) (spec.only place word.now) result }
+    ensures cause { spec.HasCause (F.faults files.old) (F.faults files.new) (F.last files.old) (F.last files.new)
+        (spec.only place word.now) result }
 {
     match source_of(alloc, kind, word.as_bytes())? {
         Source::ByItself(Some(arg)) => Ok(arg),
@@ -119,7 +122,8 @@ fn read_file<F: Files>(
 ) -> Result<Arg, ArgsFail>
     ensures held { F.held files.new ≡ F.held files.old }
     ensures reads { spec.ReadsFrom (F.held files.old) place k kind name.now ByFile result }
-    ensures cause { spec.HasCause (F.faults files.old) (F.faults files.new) (F.last files.old) (F.last files.new) (spec.only place name.now) result }
+    ensures cause { spec.HasCause (F.faults files.old) (F.faults files.new) (F.last files.old) (F.last files.new)
+        (spec.only place name.now) result }
 {
     match files.fetch(alloc, name, FILE_LIMIT) {
         Ok(bytes) => match array_of(alloc, kind, bytes)? {

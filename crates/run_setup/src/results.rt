@@ -80,7 +80,8 @@ fn array_at(
     requires few { length args.now ≤ 8 }
     requires small { total_size args.now ≤ array_limit }
     requires near { image_end ≤ 2000000 }
-    ensures { IfOk result (λ array. array ≡ spec.array_at mem.now (loading.aligned (loading.end_of image_end (take p args.now))) (slice_get args.now p)) }
+    ensures { IfOk result (λ array. array
+        ≡ spec.array_at mem.now (loading.aligned (loading.end_of image_end (take p args.now))) (slice_get args.now p)) }
 {
     if p < args.len() {
         array_in_place(alloc, mem, image_end, args, p)
@@ -101,7 +102,8 @@ fn array_in_place(
     requires few { length args.now ≤ 8 }
     requires small { total_size args.now ≤ array_limit }
     requires near { image_end ≤ 2000000 }
-    ensures { IfOk result (λ array. array ≡ spec.array_at mem.now (loading.aligned (loading.end_of image_end (take p args.now))) (slice_get args.now p)) }
+    ensures { IfOk result (λ array. array
+        ≡ spec.array_at mem.now (loading.aligned (loading.end_of image_end (take p args.now))) (slice_get args.now p)) }
 {
     let place = aligned(end_of(image_end, &args[..p]));
     read_array(alloc, mem, place, &args[p])

@@ -1,4 +1,5 @@
--- Numbers as texts and words of a command line spell them: `0`, or a digit 1 to 9 and digits, or `0x` and one to eight hexadecimal
+-- Numbers as texts and words of a command line spell them: `0`, or a
+-- digit 1 to 9 and digits, or `0x` and one to eight hexadecimal
 -- digits of either case. 48 is `0`, 120 is `x`.
 use Rattle.std.specs.Prelude.{ℕ, nat_eq, nat_le, ◌&&◌, List, [], ◌∷◌, length, Option, Some, None, if◌then◌else◌}
 use Rattle.std.specs.Char.{is_digit}

@@ -15,7 +15,10 @@ use Rattle.rup_base.specs.declared.refusal.ArgFault.TheVariants as faults
 use Rattle.rup_base.specs.declared.refusal.Goal.{Goal}
 use Rattle.rup_base.specs.declared.refusal.Goal.TheVariants as goals
 use Rattle.rup_base.specs.declared.refusal.Refusal.{Refusal}
-use Rattle.rup_base.specs.declared.refusal.Refusal.TheVariants.{NotText, NotModel, OverLimit, IllTyped, BadArguments, NotJson, NotDerivation, NodeCount, NoInstance, BadCertificate, OverSlots, OverBound, NotLemma, Stuck, OverNodes, NotImage, ArraysTooLarge, OverSize, TooLong}
+use Rattle.rup_base.specs.declared.refusal.Refusal.TheVariants.{NotText, NotModel, OverLimit, IllTyped, BadArguments, NotJson}
+use Rattle.rup_base.specs.declared.refusal.Refusal.TheVariants.{NotDerivation, NodeCount, NoInstance, BadCertificate, OverSlots}
+use Rattle.rup_base.specs.declared.refusal.Refusal.TheVariants.{OverBound, NotLemma, Stuck, OverNodes, NotImage, ArraysTooLarge}
+use Rattle.rup_base.specs.declared.refusal.Refusal.TheVariants.{OverSize, TooLong}
 
 -- ---- Enumerations print as words.
 

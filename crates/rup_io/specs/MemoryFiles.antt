@@ -1,11 +1,13 @@
 -- Files in memory, of which each answer is known.
-use Rattle.std.specs.Prelude.{◌≡◌, ℕ, Bool, true, false, List, Option, Some, None, Result, Ok, Err, ⊤, if◌then◌else◌, nat_le, length}
+use Rattle.std.specs.Prelude.{◌≡◌, ℕ, Bool, true, false, List, Option, Some, None, Result, Ok, Err, ⊤, if◌then◌else◌, nat_le}
+use Rattle.std.specs.Prelude.{length}
 use Rattle.rup_io.specs.declared.fetch.FetchFault.{FetchFault}
 use Rattle.rup_io.specs.declared.fetch.FetchFault.TheVariants.{Failed, TooLong, NoMemory}
 use Rattle.rup_io.specs.Count.{raised, is_to_fail}
 use Rattle.rup_io.specs.Files.{file_of}
 
--- the files by name, the numbers of the calls that are to fail, how many calls came, how many failed, and the last name that failed
+-- the files by name, the numbers of the calls that are to fail, how many
+-- calls came, how many failed, and the last name that failed
 pub record MemoryFiles : Type 0 where
   pub files : List (List ℕ × List ℕ)
   pub fails : List ℕ

@@ -2,7 +2,8 @@
 use Rattle.std.specs.Prelude.{ℕ, ◌-◌, Bool, List, [], ◌++◌, ◌&&◌, not, take, length, nat_le, if◌then◌else◌}
 use Rattle.rup_io.specs.Count.{raised, is_to_fail}
 
--- how many bytes it may hold, the numbers of the calls that are to fail, how many calls came, how many failed, and the bytes taken so far
+-- how many bytes it may hold, the numbers of the calls that are to fail, how
+-- many calls came, how many failed, and the bytes taken so far
 pub record MemorySink : Type 0 where
   pub capacity : ℕ
   pub fails : List ℕ
@@ -24,4 +25,8 @@ succeeds m bytes = not (is_to_fail m.fails m.calls) && nat_le (length bytes) (ro
 
 -- the sink after a write
 abbrev pub after_write : MemorySink → List ℕ → MemorySink
-after_write m bytes = record m { calls = raised m.calls; faults = (if succeeds m bytes then m.faults else raised m.faults); taken = m.taken ++ taken_of m bytes }
+after_write m bytes = record m {
+  calls = raised m.calls;
+  faults = (if succeeds m bytes then m.faults else raised m.faults);
+  taken = m.taken ++ taken_of m bytes;
+}

@@ -1,5 +1,6 @@
 -- The code of statements is no longer than they weigh, and has no more branches and jumps than is said.
-use Rattle.std.proofs.Common.{◌≡◌, ℕ, suc, ◌+◌, ◌≤◌, Bool, true, false, nat_lt, if◌then◌else◌, List, [], ◌∷◌, ◌++◌, length, map, sum, refl, sym, subst, arith, length-append}
+use Rattle.std.proofs.Common.{◌≡◌, ℕ, suc, ◌+◌, ◌≤◌, Bool, true, false, nat_lt, if◌then◌else◌, List, [], ◌∷◌, ◌++◌, length, map}
+use Rattle.std.proofs.Common.{sum, refl, sym, subst, arith, length-append}
 use Rattle.std.proofs.lemmas.Bool.{ltb-false}
 use Rattle.std.proofs.lemmas.Grind.{common_steps}
 use Rattle.bed_syntax.specs.declared.operation.BOp.{BOp}
@@ -13,9 +14,13 @@ use Rattle.reg_alloc.specs.declared.plan.At.TheVariants.{Reg as Register, Slot}
 use Rattle.rv_code.specs.Field.{reg, imm20}
 use Rattle.rv_code.specs.declared.instruction.Instr.{Instr}
 use Rattle.rv_code.specs.declared.instruction.Instr.TheVariants.{Auipc, Add}
-use Rattle.rv_emit.specs.Branching.{jump_count, jumps_in, Branching, one_if_far, all_weight, all_jumps, branching_step, branching, code_jumps}
-use Rattle.rv_emit.specs.Code.{Code, register_of, from_slot, to_slot, copied, is_short, literal_by, literal, operation, load_at, store_to, upper, ahead, jump, jump_back, over_by, over, if_code, while_code, in_row, stmt_code_step, stmt_code, block_code, is_near}
-use Rattle.rv_emit.proofs.Lengths.{length-from_slot, length-literal, length-copied, length-bin, length-load, length-table, length-store}
+use Rattle.rv_emit.specs.Branching.{jump_count, jumps_in, Branching, one_if_far, all_weight, all_jumps, branching_step, branching}
+use Rattle.rv_emit.specs.Branching.{code_jumps}
+use Rattle.rv_emit.specs.Code.{Code, register_of, from_slot, to_slot, copied, is_short, literal_by, literal, operation, load_at}
+use Rattle.rv_emit.specs.Code.{store_to, upper, ahead, jump, jump_back, over_by, over, if_code, while_code, in_row}
+use Rattle.rv_emit.specs.Code.{stmt_code_step, stmt_code, block_code, is_near}
+use Rattle.rv_emit.proofs.Lengths.{length-from_slot, length-literal, length-copied, length-bin, length-load, length-table}
+use Rattle.rv_emit.proofs.Lengths.{length-store}
 
 pub jumps-append : (a b : List Instr) → jumps_in (a ++ b) ≡ jumps_in a + jumps_in b
 jumps-append [] b = omega arith
@@ -76,7 +81,8 @@ sum_cons x xs = grind (arith, common_steps)
 over_few : (r n w : ℕ) → n ≤ w + 1 → (jumps_in (over r n) ≤ 1 + one_if_far w) × (length (over r n) ≤ 2)
 over_few r n w few = by_test (is_near n) refl (nat_lt 1020 w) refl
   where
-    by_test : (b : Bool) → is_near n ≡ b → (t : Bool) → nat_lt 1020 w ≡ t → (jumps_in (over_by b r n) ≤ 1 + (if t then 1 else 0)) × (length (over_by b r n) ≤ 2)
+    by_test : (b : Bool) → is_near n ≡ b → (t : Bool) → nat_lt 1020 w ≡ t → (jumps_in (over_by b r n) ≤ 1 + (if t then 1 else 0))
+        × (length (over_by b r n) ≤ 2)
     by_test true near t is = (omega arith, omega arith)
     by_test false far true is = (omega arith, omega arith)
     by_test false far false is = absurd (let h = ltb-false n 1022 far in let g = ltb-false 1020 w is in omega arith)
@@ -101,7 +107,9 @@ module _ (place : ℕ → At) (offset : ℕ → ℕ) where
   abbrev all_of : List Proved → List Branching
   all_of cs = map branching (map (λ p. p.0) cs)
 
-  then_few : (c : Code) (cs : List Code) (b : Branching) (bs : List Branching) → Within c b → ((n : ℕ) → (length (in_row cs n) ≤ all_weight bs) × (jumps_in (in_row cs n) ≤ all_jumps bs)) → (n : ℕ) → (length (in_row (c ∷ cs) n) ≤ all_weight (b ∷ bs)) × (jumps_in (in_row (c ∷ cs) n) ≤ all_jumps (b ∷ bs))
+  then_few : (c : Code) (cs : List Code) (b : Branching) (bs : List Branching) → Within c b
+      → ((n : ℕ) → (length (in_row cs n) ≤ all_weight bs) × (jumps_in (in_row cs n) ≤ all_jumps bs)) → (n : ℕ)
+      → (length (in_row (c ∷ cs) n) ≤ all_weight (b ∷ bs)) × (jumps_in (in_row (c ∷ cs) n) ≤ all_jumps (b ∷ bs))
   then_few c cs b bs first rest n =
       let behind = in_row cs n in
       let here = c (length behind + n) in
@@ -117,11 +125,13 @@ module _ (place : ℕ → At) (offset : ℕ → ℕ) where
       let j = sum_cons b.jumps (map (λ b. b.jumps) bs) in
       (omega arith, omega arith)
 
-  row_few : (cs : List Proved) (n : ℕ) → (length (in_row (codes cs) n) ≤ all_weight (all_of cs)) × (jumps_in (in_row (codes cs) n) ≤ all_jumps (all_of cs))
+  row_few : (cs : List Proved) (n : ℕ) → (length (in_row (codes cs) n) ≤ all_weight (all_of cs))
+      × (jumps_in (in_row (codes cs) n) ≤ all_jumps (all_of cs))
   row_few [] n = (omega arith, omega arith)
   row_few (c ∷ cs) n = then_few (stmt_code place offset c.0) (codes cs) (branching c.0) (all_of cs) c.1 (row_few cs) n
 
-  if_few : (p : At) (ca cb : Code) (wa ja wb jb : ℕ) → ((n : ℕ) → (length (ca n) ≤ wa) × (jumps_in (ca n) ≤ ja)) → ((n : ℕ) → (length (cb n) ≤ wb) × (jumps_in (cb n) ≤ jb)) → (n : ℕ)
+  if_few : (p : At) (ca cb : Code) (wa ja wb jb : ℕ) → ((n : ℕ) → (length (ca n) ≤ wa) × (jumps_in (ca n) ≤ ja))
+      → ((n : ℕ) → (length (cb n) ≤ wb) × (jumps_in (cb n) ≤ jb)) → (n : ℕ)
       → (length (if_code p ca cb n) ≤ 4 + (wa + wb)) × (jumps_in (if_code p ca cb n) ≤ 2 + one_if_far wa + (ja + jb))
   if_few p ca cb wa ja wb jb first second n =
       let b = cb n in
@@ -148,7 +158,8 @@ module _ (place : ℕ → At) (offset : ℕ → ℕ) where
       let jf = from_none 5 p in
       (omega arith, omega arith)
 
-  while_few : (p : At) (ca cb : Code) (wa ja wb jb : ℕ) → ((n : ℕ) → (length (ca n) ≤ wa) × (jumps_in (ca n) ≤ ja)) → ((n : ℕ) → (length (cb n) ≤ wb) × (jumps_in (cb n) ≤ jb)) → (n : ℕ)
+  while_few : (p : At) (ca cb : Code) (wa ja wb jb : ℕ) → ((n : ℕ) → (length (ca n) ≤ wa) × (jumps_in (ca n) ≤ ja))
+      → ((n : ℕ) → (length (cb n) ≤ wb) × (jumps_in (cb n) ≤ jb)) → (n : ℕ)
       → (length (while_code ca p cb n) ≤ wa + (4 + wb)) × (jumps_in (while_code ca p cb n) ≤ 2 + one_if_far wb + (ja + jb))
   while_few p ca cb wa ja wb jb first second n =
       let body = cb (suc n) in
@@ -178,8 +189,11 @@ module _ (place : ℕ → At) (offset : ℕ → ℕ) where
       let jf = from_none 5 p in
       (omega arith, omega arith)
 
-  step_few : (y : FStmt-F Proved) (n : ℕ) → (length (stmt_code_step place offset (map-FStmt FStmt Code (stmt_code place offset) (bare y)) n) ≤ (branching_step (map-FStmt FStmt Branching branching (bare y))).weight)
-      × (jumps_in (stmt_code_step place offset (map-FStmt FStmt Code (stmt_code place offset) (bare y)) n) ≤ (branching_step (map-FStmt FStmt Branching branching (bare y))).jumps)
+  step_few : (y : FStmt-F Proved) (n : ℕ)
+      → (length (stmt_code_step place offset (map-FStmt FStmt Code (stmt_code place offset) (bare y)) n) ≤
+      (branching_step (map-FStmt FStmt Branching branching (bare y))).weight)
+      × (jumps_in (stmt_code_step place offset (map-FStmt FStmt Code (stmt_code place offset) (bare y)) n) ≤
+      (branching_step (map-FStmt FStmt Branching branching (bare y))).jumps)
   step_few (f.Lit x v) n =
       let j = jumps-append (literal (register_of 5 (place x)) v) (to_slot (place x)) in
       let j1 = literal_none (register_of 5 (place x)) v in
@@ -206,7 +220,9 @@ module _ (place : ℕ → At) (offset : ℕ → ℕ) where
   step_few (f.Table z x k y) n =
       let far = ahead (offset k) (2 + length (to_slot (place x)) + n) in
       let does = load_at z (register_of 5 (place x)) 5 far in
-      let j1 = jumps-append (from_slot 5 (place y)) (Auipc (reg 6) (imm20 (upper far)) ∷ (Add (reg 5) (reg (register_of 5 (place y))) (reg 6) ∷ (does ∷ to_slot (place x)))) in
+      let j1 = jumps-append (from_slot 5 (place y))
+      (Auipc (reg 6) (imm20 (upper far))
+      ∷ (Add (reg 5) (reg (register_of 5 (place y))) (reg 6) ∷ (does ∷ to_slot (place x)))) in
       let j2 = from_none 5 (place y) in
       let j3 = load_none z (register_of 5 (place x)) 5 far in
       let j4 = to_none (place x) in
@@ -219,20 +235,28 @@ module _ (place : ℕ → At) (offset : ℕ → ℕ) where
       let j4 = from_none 6 (place y) in
       let j5 = store_none z (register_of 5 (place x)) (register_of 6 (place y)) in
       (length-store z (place x) (place y), omega arith)
-  step_few (f.If x a b) n = if_few (place x) (in_row (codes a)) (in_row (codes b)) (all_weight (all_of a)) (all_jumps (all_of a)) (all_weight (all_of b)) (all_jumps (all_of b)) (row_few a) (row_few b) n
-  step_few (f.While a x b) n = while_few (place x) (in_row (codes a)) (in_row (codes b)) (all_weight (all_of a)) (all_jumps (all_of a)) (all_weight (all_of b)) (all_jumps (all_of b)) (row_few a) (row_few b) n
+  step_few (f.If x a b) n = if_few (place x) (in_row (codes a)) (in_row (codes b)) (all_weight (all_of a)) (all_jumps (all_of a))
+      (all_weight (all_of b)) (all_jumps (all_of b)) (row_few a) (row_few b) n
+  step_few (f.While a x b) n = while_few (place x) (in_row (codes a)) (in_row (codes b)) (all_weight (all_of a))
+      (all_jumps (all_of a)) (all_weight (all_of b)) (all_jumps (all_of b)) (row_few a) (row_few b) n
 
   node_few : (y : FStmt-F Proved) → Few (roll-FStmt (bare y))
   node_few y = λ n.
-      subst (λ b. (length (stmt_code place offset (roll-FStmt (bare y)) n) ≤ b.weight) × (jumps_in (stmt_code place offset (roll-FStmt (bare y)) n) ≤ b.jumps)) (sym (fold-roll-FStmt Branching branching_step (bare y)))
-      (subst (λ c. (length (c n) ≤ (branching_step (map-FStmt FStmt Branching branching (bare y))).weight) × (jumps_in (c n) ≤ (branching_step (map-FStmt FStmt Branching branching (bare y))).jumps)) (sym (fold-roll-FStmt Code (stmt_code_step place offset) (bare y))) (step_few y n))
+      subst (λ b. (length (stmt_code place offset (roll-FStmt (bare y)) n) ≤ b.weight)
+      × (jumps_in (stmt_code place offset (roll-FStmt (bare y)) n) ≤ b.jumps))
+      (sym (fold-roll-FStmt Branching branching_step (bare y)))
+      (subst (λ c. (length (c n) ≤ (branching_step (map-FStmt FStmt Branching branching (bare y))).weight)
+      × (jumps_in (c n) ≤ (branching_step (map-FStmt FStmt Branching branching (bare y))).jumps))
+      (sym (fold-roll-FStmt Code (stmt_code_step place offset) (bare y))) (step_few y n))
 
   stmt_few : (c : FStmt) → Few c
   stmt_few = ind-FStmt Few (λ x y is. subst (λ z. Few (roll-FStmt z)) is (node_few y))
 
-  block_both : (cs : List FStmt) (n : ℕ) → (length (block_code place offset cs n) ≤ all_weight (map branching cs)) × (jumps_in (block_code place offset cs n) ≤ all_jumps (map branching cs))
+  block_both : (cs : List FStmt) (n : ℕ) → (length (block_code place offset cs n) ≤ all_weight (map branching cs))
+      × (jumps_in (block_code place offset cs n) ≤ all_jumps (map branching cs))
   block_both [] n = (omega arith, omega arith)
-  block_both (c ∷ cs) n = then_few (stmt_code place offset c) (map (stmt_code place offset) cs) (branching c) (map branching cs) (stmt_few c) (block_both cs) n
+  block_both (c ∷ cs) n = then_few (stmt_code place offset c) (map (stmt_code place offset) cs) (branching c) (map branching cs)
+      (stmt_few c) (block_both cs) n
 
   pub block_few : (cs : List FStmt) (n : ℕ) → jumps_in (block_code place offset cs n) ≤ code_jumps cs
   block_few cs n = (block_both cs n).1

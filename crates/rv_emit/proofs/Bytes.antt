@@ -1,5 +1,6 @@
 -- Stores into two memories of which one holds the bytes of the other.
-use Rattle.std.proofs.Common.{◌≡◌, ℕ, zero, suc, ◌+◌, ◌*◌, ◌/◌, ◌%◌, ◌^◌, ◌<◌, ◌≤◌, ◌⊎◌, inl, inr, Option, Some, None, IsSome, is_some, nat_eq, if◌then◌else◌, Bool, true, false, refl, sym, ap, ◌∙◌, subst, arith}
+use Rattle.std.proofs.Common.{◌≡◌, ℕ, zero, suc, ◌+◌, ◌*◌, ◌/◌, ◌%◌, ◌^◌, ◌<◌, ◌≤◌, ◌⊎◌, inl, inr, Option, Some, None, IsSome}
+use Rattle.std.proofs.Common.{is_some, nat_eq, if◌then◌else◌, Bool, true, false, refl, sym, ap, ◌∙◌, subst, arith}
 use Rattle.std.proofs.lemmas.Bool.{cases_eq, eqb-true}
 use Rattle.std.specs.FinMap.{get, insert}
 use Rattle.bed_syntax.specs.declared.operation.Size.{Size}
@@ -18,17 +19,21 @@ seen-insert flat real a v seen q b found = by_place (cases_eq q a)
   where
     by_place : (q ≡ a) ⊎ (q ≡ a → ⊥) → get (insert real a v) q ≡ Some b
     by_place (inl same) =
-        let first : get (insert flat a v) q ≡ Some v = subst (λ x. get (insert flat a v) x ≡ Some v) (sym same) (get-insert_same flat a v) in
-        let second : get (insert real a v) q ≡ Some v = subst (λ x. get (insert real a v) x ≡ Some v) (sym same) (get-insert_same real a v) in
+        let first : get (insert flat a v) q
+        ≡ Some v = subst (λ x. get (insert flat a v) x ≡ Some v) (sym same) (get-insert_same flat a v) in
+        let second : get (insert real a v) q
+        ≡ Some v = subst (λ x. get (insert real a v) x ≡ Some v) (sym same) (get-insert_same real a v) in
         second ∙ sym first ∙ found
     by_place (inr other) =
         get-insert_other real a v q other ∙ seen q b (sym (get-insert_other flat a v q other) ∙ found)
 
-pub seen-with_number : (size : ℕ) (flat real : Bytes) (a v : ℕ) → Seen flat real → Seen (with_number flat size a v) (with_number real size a v)
+pub seen-with_number : (size : ℕ) (flat real : Bytes) (a v : ℕ) → Seen flat real
+    → Seen (with_number flat size a v) (with_number real size a v)
 unfolding with_number
 seen-with_number zero flat real a v seen = seen
 seen-with_number (suc size) flat real a v seen =
-    seen-with_number size (insert flat a (v % 256)) (insert real a (v % 256)) (a + 1) (v / 256) (seen-insert flat real a (v % 256) seen)
+    seen-with_number size (insert flat a (v % 256)) (insert real a (v % 256)) (a + 1) (v / 256)
+    (seen-insert flat real a (v % 256) seen)
 
 abbrev pub AreBytes : Bytes → Type 0
 AreBytes mem = (a b : ℕ) → get mem a ≡ Some b → b < 256
@@ -38,7 +43,8 @@ bytes-insert mem a v small are q b found = by_place (cases_eq q a)
   where
     by_place : (q ≡ a) ⊎ (q ≡ a → ⊥) → b < 256
     by_place (inl same) =
-        let first : get (insert mem a v) q ≡ Some v = subst (λ x. get (insert mem a v) x ≡ Some v) (sym same) (get-insert_same mem a v) in
+        let first : get (insert mem a v) q
+        ≡ Some v = subst (λ x. get (insert mem a v) x ≡ Some v) (sym same) (get-insert_same mem a v) in
         let is : v ≡ b = cc in
         omega arith
     by_place (inr other) = are q b (sym (get-insert_other mem a v q other) ∙ found)
@@ -97,7 +103,8 @@ two_number mem a b c first second =
         by_place (inl same) = is_some_by mem a b q first (sym same)
         by_place (inr other) = is_some_by mem (a + 1) c q second (omega arith)
 
-four_number : (mem : Bytes) (a b c d e : ℕ) → get mem a ≡ Some b → get mem (a + 1) ≡ Some c → get mem (a + 2) ≡ Some d → get mem (a + 3) ≡ Some e → Number mem 4 a (b + 256 * (c + 256 * (d + 256 * e)))
+four_number : (mem : Bytes) (a b c d e : ℕ) → get mem a ≡ Some b → get mem (a + 1) ≡ Some c → get mem (a + 2) ≡ Some d
+    → get mem (a + 3) ≡ Some e → Number mem 4 a (b + 256 * (c + 256 * (d + 256 * e)))
 four_number mem a b c d e first second third fourth =
     record {
       there = number_at_four mem a b c d e first second third fourth;
@@ -131,14 +138,16 @@ module _ (byte : ℕ → Option ℕ) (mem : Bytes) (start at v : ℕ) (placed : 
       let is : b + 256 * c ≡ v = cc in
       subst (λ n. Number mem 2 (start + at) n) is (two_number mem (start + at) b c (placed at b first) (next_place 1 c second))
 
-  four_parts : (o p q r : Option ℕ) → byte at ≡ o → byte (at + 1) ≡ p → byte (at + 2) ≡ q → byte (at + 3) ≡ r → low_high o (low_high p (low_high q r)) ≡ Some v → Number mem 4 (start + at) v
+  four_parts : (o p q r : Option ℕ) → byte at ≡ o → byte (at + 1) ≡ p → byte (at + 2) ≡ q → byte (at + 3) ≡ r
+      → low_high o (low_high p (low_high q r)) ≡ Some v → Number mem 4 (start + at) v
   four_parts None p q r h1 h2 h3 h4 whole = absurd (cc)
   four_parts (Some b) None q r h1 h2 h3 h4 whole = absurd (cc)
   four_parts (Some b) (Some c) None r h1 h2 h3 h4 whole = absurd (cc)
   four_parts (Some b) (Some c) (Some d) None h1 h2 h3 h4 whole = absurd (cc)
   four_parts (Some b) (Some c) (Some d) (Some e) h1 h2 h3 h4 whole =
       let is : b + 256 * (c + 256 * (d + 256 * e)) ≡ v = cc in
-      subst (λ n. Number mem 4 (start + at) n) is (four_number mem (start + at) b c d e (placed at b h1) (next_place 1 c h2) (next_place 2 d h3) (next_place 3 e h4))
+      subst (λ n. Number mem 4 (start + at) n) is
+      (four_number mem (start + at) b c d e (placed at b h1) (next_place 1 c h2) (next_place 2 d h3) (next_place 3 e h4))
 
   pub word_number : (size : Size) → word byte size at ≡ Some v → Number mem (width size) (start + at) v
   word_number size.One found = one_number mem (start + at) v (placed at v found)
@@ -159,15 +168,18 @@ pub record Found (size : Size) (mem : Bytes) (start at v : ℕ) : Type 0 where
   pub aligned : at % width size ≡ 0
   pub number : Number mem (width size) (start + at) v
 
-pub found_by : (byte : ℕ → Option ℕ) (size : Size) (mem : Bytes) (start at v : ℕ) → Placed byte mem start → (if nat_eq (at % width size) 0 then word byte size at else None) ≡ Some v → Found size mem start at v
+pub found_by : (byte : ℕ → Option ℕ) (size : Size) (mem : Bytes) (start at v : ℕ) → Placed byte mem start
+    → (if nat_eq (at % width size) 0 then word byte size at else None) ≡ Some v → Found size mem start at v
 found_by byte size mem start at v placed loads =
     let t = tested (nat_eq (at % width size) 0) (word byte size at) v loads in
     record { aligned = eqb-true (at % width size) 0 t.passed; number = word_number byte mem start at v placed size t.is }
 
 -- the first memory's own load, seen in the second
-pub load_found : (size : Size) (flat real : Bytes) (at v : ℕ) → Seen flat real → loaded size flat at ≡ Some v → Found size real 0 at v
+pub load_found : (size : Size) (flat real : Bytes) (at v : ℕ) → Seen flat real → loaded size flat at ≡ Some v
+    → Found size real 0 at v
 load_found size flat real at v seen loads =
-    found_by (λ a. get flat a) size real 0 at v (λ a b found. let same : a ≡ 0 + a = omega arith in subst (λ q. get real q ≡ Some b) same (seen a b found)) loads
+    found_by (λ a. get flat a) size real 0 at v
+    (λ a b found. let same : a ≡ 0 + a = omega arith in subst (λ q. get real q ≡ Some b) same (seen a b found)) loads
 
 -- what a store needs, and what it does
 pub record Stored (size : Size) (mem after : Bytes) (at v : ℕ) : Type 0 where
@@ -178,6 +190,7 @@ pub record Stored (size : Size) (mem after : Bytes) (at v : ℕ) : Type 0 where
 pub store_found : (size : Size) (mem after : Bytes) (at v : ℕ) → store size mem at v ≡ Some after → Stored size mem after at v
 store_found size mem after at v found = by_load (loaded size mem at) refl found
   where
-    by_load : (o : Option ℕ) → loaded size mem at ≡ o → where_some o (stored size mem at v) ≡ Some after → Stored size mem after at v
+    by_load : (o : Option ℕ) → loaded size mem at ≡ o → where_some o (stored size mem at v) ≡ Some after
+        → Stored size mem after at v
     by_load None is done = absurd (cc)
     by_load (Some old) is done = record { old = old; loads = is; is = cc }

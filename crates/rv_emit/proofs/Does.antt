@@ -9,14 +9,16 @@ pub loaded_is : (s : State) (size a v : ℕ) → a % size ≡ 0 → number_at s.
 unfolding loaded
 loaded_is s size a v aligned there = rw (aligned, there)
 
-pub loads_is : (s : State) (d size a b v : ℕ) → a ≡ b → b % size ≡ 0 → number_at s.mem size b ≡ Some v → loads s d (λ n. n) (loaded s size a) ≡ gives s d v
+pub loads_is : (s : State) (d size a b v : ℕ) → a ≡ b → b % size ≡ 0 → number_at s.mem size b ≡ Some v
+    → loads s d (λ n. n) (loaded s size a) ≡ gives s d v
 loads_is s d size a b v same aligned there = rw (same, loaded_is s size b v aligned there) refl
 
 -- the machine's memory after a store, and the next place
 abbrev pub with_stored : State → ℕ → ℕ → ℕ → State
 with_stored s size a v = record { regs = s.regs; pc = plus s.pc 4; mem = with_number s.mem size a v }
 
-pub stores_is : (s : State) (size a b v n : ℕ) → a ≡ b → v ≡ n → b % size ≡ 0 → IsSome (number_at s.mem size b) → stores s size a v ≡ Ok (with_stored s size b n)
+pub stores_is : (s : State) (size a b v n : ℕ) → a ≡ b → v ≡ n → b % size ≡ 0 → IsSome (number_at s.mem size b)
+    → stores s size a v ≡ Ok (with_stored s size b n)
 unfolding stores
 stores_is s size a b v n same value aligned there = rw (same, value, aligned, there)
 

@@ -1,5 +1,6 @@
 -- What is among the elements of a list, and of those that pass a test.
-use Rattle.std.proofs.Common.{◌≡◌, ℕ, zero, suc, ◌<◌, ◌≤◌, Bool, true, false, ◌||◌, ◌&&◌, nat_eq, cond, filter, drop, List, [], ◌∷◌, length, map, Option, Some, None, slice_get, slice_index_or, refl, sym, ap, ◌∙◌, subst, arith}
+use Rattle.std.proofs.Common.{◌≡◌, ℕ, zero, suc, ◌<◌, ◌≤◌, Bool, true, false, ◌||◌, ◌&&◌, nat_eq, cond, filter, drop, List, []}
+use Rattle.std.proofs.Common.{◌∷◌, length, map, Option, Some, None, slice_get, slice_index_or, refl, sym, ap, ◌∙◌, subst, arith}
 use Rattle.rup_base.specs.Gather.{all_true}
 
 pub or_left : (a b : Bool) → a ≡ true → (a || b) ≡ true
@@ -36,7 +37,8 @@ pub filtered : (test : ℕ → Bool) (xs : List ℕ) (i r : ℕ) → slice_get (
 filtered test [] i r found = absurd (let bad : ◌≡◌ {A = Option ℕ} None (Some r) = found in cc)
 filtered test (x ∷ xs) i r found = by_case (λ i at. later_kept test x xs r (filtered test xs i r at)) (test x) refl i found
   where
-    by_case : ((i : ℕ) → slice_get (filter test xs) i ≡ Some r → Kept test (x ∷ xs) r) → (b : Bool) → test x ≡ b → (i : ℕ) → slice_get (cond b (x ∷ filter test xs) (filter test xs)) i ≡ Some r → Kept test (x ∷ xs) r
+    by_case : ((i : ℕ) → slice_get (filter test xs) i ≡ Some r → Kept test (x ∷ xs) r) → (b : Bool) → test x ≡ b → (i : ℕ)
+        → slice_get (cond b (x ∷ filter test xs) (filter test xs)) i ≡ Some r → Kept test (x ∷ xs) r
     by_case rest true is zero at = let e : x ≡ r = cc in record { place = 0; is = at; passes = ap test (sym e) ∙ is }
     by_case rest true is (suc i) at = rest i at
     by_case rest false is i at = rest i at
@@ -64,13 +66,15 @@ pub length-filter : (test : ℕ → Bool) (xs : List ℕ) → length (filter tes
 length-filter test [] = omega arith
 length-filter test (x ∷ xs) = by_case (length-filter test xs) (test x)
   where
-    by_case : length (filter test xs) ≤ length xs → (b : Bool) → length (cond b (x ∷ filter test xs) (filter test xs)) ≤ length (x ∷ xs)
+    by_case : length (filter test xs) ≤ length xs → (b : Bool)
+        → length (cond b (x ∷ filter test xs) (filter test xs)) ≤ length (x ∷ xs)
     by_case rest true = omega arith
     by_case rest false = omega arith
 
 pub one_of : (test : ℕ → Bool) (xs : List ℕ) → all_true (map test xs) ≡ true → (k r : ℕ) → slice_get xs k ≡ Some r → test r ≡ true
 one_of test [] all k r found = absurd (let bad : ◌≡◌ {A = Option ℕ} None (Some r) = found in cc)
-one_of test (x ∷ xs) all zero r found = let e : x ≡ r = cc in subst (λ z. test z ≡ true) e (and_left (test x) (all_true (map test xs)) all)
+one_of test (x ∷ xs) all zero r found = let e : x ≡ r = cc in
+    subst (λ z. test z ≡ true) e (and_left (test x) (all_true (map test xs)) all)
 one_of test (x ∷ xs) all (suc k) r found = one_of test xs (and_right (test x) (all_true (map test xs)) all) k r found
 
 abbrev pub contains : List ℕ → ℕ → Bool
@@ -81,7 +85,8 @@ pub found_in : (xs : List ℕ) (r : ℕ) → contains xs r ≡ true → Among xs
 found_in [] r h = absurd (cc)
 found_in (x ∷ xs) r h = by_case (λ g. next_among x xs r (found_in xs r g)) (nat_eq x r) refl h
   where
-    by_case : (contains xs r ≡ true → Among (x ∷ xs) r) → (b : Bool) → nat_eq x r ≡ b → (b || contains xs r) ≡ true → Among (x ∷ xs) r
+    by_case : (contains xs r ≡ true → Among (x ∷ xs) r) → (b : Bool) → nat_eq x r ≡ b → (b || contains xs r) ≡ true
+        → Among (x ∷ xs) r
     by_case rest true is g = record { place = 0; is = ap Some (same_numbers x r is) }
     by_case rest false is g = rest g
 

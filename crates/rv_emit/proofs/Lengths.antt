@@ -8,7 +8,8 @@ use Rattle.reg_alloc.specs.declared.plan.At.TheVariants.{Reg as Register, Slot}
 use Rattle.rv_code.specs.Field.{reg, imm20}
 use Rattle.rv_code.specs.declared.instruction.Instr.{Instr}
 use Rattle.rv_code.specs.declared.instruction.Instr.TheVariants.{Auipc, Add}
-use Rattle.rv_emit.specs.Code.{register_of, from_slot, to_slot, copied, is_short, literal_by, literal, upper, operation, load_at, store_to, ahead, look_up}
+use Rattle.rv_emit.specs.Code.{register_of, from_slot, to_slot, copied, is_short, literal_by, literal, upper, operation, load_at}
+use Rattle.rv_emit.specs.Code.{store_to, ahead, look_up}
 
 pub length-from_slot : (t : ℕ) (p : At) → length (from_slot t p) ≤ 1
 length-from_slot t (Register r) = omega arith
@@ -60,21 +61,32 @@ in_two a b m n la lb = let size = length-append a b in omega arith
 pub length-literal : (p : At) (v : ℕ) → length (literal (register_of 5 p) v ++ to_slot p) ≤ 3
 length-literal p v = in_two (literal (register_of 5 p) v) (to_slot p) 2 1 (literal_two (register_of 5 p) v) (length-to_slot p)
 
-pub length-bin : (o : BOp) (p q r : At) → length (from_slot 5 q ++ (from_slot 6 r ++ (operation o (register_of 5 p) (register_of 5 q) (register_of 6 r) ++ to_slot p))) ≤ 5
+pub length-bin : (o : BOp) (p q r : At)
+    → length (from_slot 5 q ++ (from_slot 6 r
+    ++ (operation o (register_of 5 p) (register_of 5 q) (register_of 6 r) ++ to_slot p))) ≤ 5
 length-bin o p q r =
-    in_four (from_slot 5 q) (from_slot 6 r) (operation o (register_of 5 p) (register_of 5 q) (register_of 6 r)) (to_slot p) (length-from_slot 5 q) (length-from_slot 6 r) (length-operation o (register_of 5 p) (register_of 5 q) (register_of 6 r)) (length-to_slot p)
+    in_four (from_slot 5 q) (from_slot 6 r) (operation o (register_of 5 p) (register_of 5 q) (register_of 6 r)) (to_slot p)
+    (length-from_slot 5 q) (length-from_slot 6 r) (length-operation o (register_of 5 p) (register_of 5 q) (register_of 6 r))
+    (length-to_slot p)
 
-pub length-load : (z : Size) (p q : At) → length (from_slot 5 q ++ (load_at z (register_of 5 p) (register_of 5 q) 0 ∷ to_slot p)) ≤ 3
-length-load z p q = let last = length-to_slot p in in_two (from_slot 5 q) (load_at z (register_of 5 p) (register_of 5 q) 0 ∷ to_slot p) 1 2 (length-from_slot 5 q) (omega arith)
+pub length-load : (z : Size) (p q : At)
+    → length (from_slot 5 q ++ (load_at z (register_of 5 p) (register_of 5 q) 0 ∷ to_slot p)) ≤ 3
+length-load z p q = let last = length-to_slot p in
+    in_two (from_slot 5 q) (load_at z (register_of 5 p) (register_of 5 q) 0 ∷ to_slot p) 1 2 (length-from_slot 5 q) (omega arith)
 
 pub length-table : (z : Size) (p q : At) (offset n : ℕ) → length (look_up z p offset q n) ≤ 6
 length-table z p q offset n =
     let far = ahead offset (2 + length (to_slot p) + n) in
     let last = length-to_slot p in
-    let all = in_two (from_slot 5 q) (Auipc (reg 6) (imm20 (upper far)) ∷ (Add (reg 5) (reg (register_of 5 q)) (reg 6) ∷ (load_at z (register_of 5 p) 5 far ∷ to_slot p))) 1 4 (length-from_slot 5 q) (omega arith) in
+    let all = in_two (from_slot 5 q)
+    (Auipc (reg 6) (imm20 (upper far))
+    ∷ (Add (reg 5) (reg (register_of 5 q)) (reg 6) ∷ (load_at z (register_of 5 p) 5 far ∷ to_slot p))) 1 4
+    (length-from_slot 5 q) (omega arith) in
     omega (arith, all)
 
-pub length-store : (z : Size) (p q : At) → length (from_slot 5 p ++ (from_slot 6 q ++ store_to z (register_of 5 p) (register_of 6 q) ∷ [])) ≤ 3
+pub length-store : (z : Size) (p q : At)
+    → length (from_slot 5 p ++ (from_slot 6 q ++ store_to z (register_of 5 p) (register_of 6 q) ∷ [])) ≤ 3
 length-store z p q =
     let last = store_to z (register_of 5 p) (register_of 6 q) ∷ [] in
-    in_two (from_slot 5 p) (from_slot 6 q ++ last) 1 2 (length-from_slot 5 p) (in_two (from_slot 6 q) last 1 1 (length-from_slot 6 q) (omega arith))
+    in_two (from_slot 5 p) (from_slot 6 q ++ last) 1 2 (length-from_slot 5 p)
+    (in_two (from_slot 6 q) last 1 1 (length-from_slot 6 q) (omega arith))

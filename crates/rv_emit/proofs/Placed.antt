@@ -1,5 +1,6 @@
 -- Code that stands for a call, as a site; and the ready state, as one at which the code is entered.
-use Rattle.std.proofs.Common.{◌≡◌, ℕ, zero, suc, ◌+◌, ◌-◌, ◌*◌, ◌^◌, ◌<◌, ◌≤◌, inl, inr, false, List, [], ◌∷◌, map, length, Option, Some, None, IsSome, slice_get, refl, ap, ◌∙◌, subst, arith, length-append, is_some, ◌≢◌}
+use Rattle.std.proofs.Common.{◌≡◌, ℕ, zero, suc, ◌+◌, ◌-◌, ◌*◌, ◌^◌, ◌<◌, ◌≤◌, inl, inr, false, List, [], ◌∷◌, map, length}
+use Rattle.std.proofs.Common.{Option, Some, None, IsSome, slice_get, refl, ap, ◌∙◌, subst, arith, length-append, is_some, ◌≢◌}
 use Rattle.std.specs.Prelude.{option_map}
 use Rattle.std.specs.List.{AllByRecursion, flat_map}
 use Rattle.std.specs.Int.{w32, to_le_bytes}
@@ -63,7 +64,8 @@ site f plan code text start base =
       held = uses plan.places;
     }
 
-some_word : (code : List Instr) (k : ℕ) (i : Instr) → slice_get code k ≡ Some i → slice_get (map word_of code) k ≡ Some (word_of i)
+some_word : (code : List Instr) (k : ℕ) (i : Instr) → slice_get code k ≡ Some i
+    → slice_get (map word_of code) k ≡ Some (word_of i)
 some_word code k i found = slice_get-map word_of code k ∙ ap (λ o. option_map word_of o) found
 
 apart_from : (r : Range) (rs : List Range) (a : ℕ) → AllByRecursion (Apart r) rs → InOne rs a → Within r a → ⊥
@@ -71,7 +73,9 @@ apart_from r [] a apart one within = absurd one
 apart_from r (q ∷ rs) a apart (inl here) within = apart.0 a within here
 apart_from r (q ∷ rs) a apart (inr there) within = apart_from r rs a apart.1 there within
 
-module _ (f : Flat) (plan : Plan) (placement : IsPlacement f plan) (code : List Instr) (text : List ℕ) (stack : ℕ) (emits : Emits f plan code text stack) (image : Range) (start : ℕ) (arrays : List Range) (s : State) (ready : Ready (map word_of code) text stack image start arrays s) where
+module _ (f : Flat) (plan : Plan) (placement : IsPlacement f plan) (code : List Instr) (text : List ℕ) (stack : ℕ)
+    (emits : Emits f plan code text stack) (image : Range) (start : ℕ) (arrays : List Range) (s : State)
+    (ready : Ready (map word_of code) text stack image start arrays s) where
   abbrev pub base : ℕ
   base = register s.regs 2 - stack
 
@@ -104,14 +108,17 @@ module _ (f : Flat) (plan : Plan) (placement : IsPlacement f plan) (code : List 
 
   pub code_at : (k : ℕ) (i : Instr) → slice_get code k ≡ Some i → number_at s.mem 4 (start + 4 * k) ≡ Some (word_of i)
   code_at k i found =
-      words_stand s.mem (map word_of code) start k (word_of i) (stands_front s.mem start (flat_map (to_le_bytes w32) (map word_of code)) text ready.code_stands) (some_word code k i found) (word_small i)
+      words_stand s.mem (map word_of code) start k (word_of i)
+      (stands_front s.mem start (flat_map (to_le_bytes w32) (map word_of code)) text ready.code_stands)
+      (some_word code k i found) (word_small i)
 
   text_stands : Stands s.mem (start + 4 * length code) text
   text_stands =
       let words = length-word_bytes (map word_of code) in
       let count = length-map {A = Instr} {B = ℕ} code word_of in
       let place : start + length (flat_map (to_le_bytes w32) (map word_of code)) ≡ start + 4 * length code = omega arith in
-      subst (λ a. Stands s.mem a text) place (stands_back s.mem start (flat_map (to_le_bytes w32) (map word_of code)) text ready.code_stands)
+      subst (λ a. Stands s.mem a text) place
+      (stands_back s.mem start (flat_map (to_le_bytes w32) (map word_of code)) text ready.code_stands)
 
   table_at : (k : ℕ) (bytes : List ℕ) → slice_get f.tables k ≡ Some bytes → TableAt before_saving taken (offset_in f k) bytes
   table_at k bytes found =
@@ -121,7 +128,8 @@ module _ (f : Flat) (plan : Plan) (placement : IsPlacement f plan) (code : List 
       let same : offset_in f k ≡ t.offset = omega arith in
       record {
         aligned = omega arith;
-        inside = λ a b at. let within = slice_get_within text (t.offset + a) b (in_text t.offset a b (t.there a b at)) in omega arith;
+        inside = λ a b at. let within = slice_get_within text (t.offset + a) b (in_text t.offset a b (t.there a b at)) in
+            omega arith;
         stands = λ a b at.
             let place : start + 4 * length code + (t.offset + a) ≡ start + (4 * length code + offset_in f k) + a = omega arith in
             subst (λ q. get s.mem q ≡ Some b) place (text_stands (t.offset + a) b (in_text t.offset a b (t.there a b at)));
@@ -211,7 +219,9 @@ module _ (f : Flat) (plan : Plan) (placement : IsPlacement f plan) (code : List 
           inside = t.inside;
           stands = λ a b at.
               let inside = t.inside a b at in
-              unchanged (start + (4 * length code + offset) + a) (λ frame. off_stack (start + (4 * length code + offset) + a) (omega arith, omega arith) frame) ∙ t.stands a b at;
+              unchanged (start + (4 * length code + offset) + a)
+              (λ frame. off_stack (start + (4 * length code + offset) + a) (omega arith, omega arith) frame)
+              ∙ t.stands a b at;
         }
 
     pub sound : Sound here m
@@ -225,7 +235,9 @@ module _ (f : Flat) (plan : Plan) (placement : IsPlacement f plan) (code : List 
           few = saving_sound.few;
           fit = omega arith;
           apart = off_stack;
-          stands = λ j i found. let below = slice_get_within code j i found in number_at_agree 4 s.mem m.mem (start + 4 * j) (λ a low high. unchanged a (λ frame. off_stack a (omega arith, omega arith) frame)) ∙ code_at j i found;
+          stands = λ j i found. let below = slice_get_within code j i found in
+              number_at_agree 4 s.mem m.mem (start + 4 * j)
+              (λ a low high. unchanged a (λ frame. off_stack a (omega arith, omega arith) frame)) ∙ code_at j i found;
           table = λ j bytes found. table_still (offset_in f j) bytes (table_at j bytes found);
           mapped = λ a frame. saved.memory.stay a (saving_sound.mapped a frame);
           from = placement.from;
@@ -246,7 +258,8 @@ module _ (f : Flat) (plan : Plan) (placement : IsPlacement f plan) (code : List 
         }
       where
         off_array : (a : ℕ) → IsSome (get mem a) → InFrame here a → ⊥
-        off_array a there frame = apart_from (stack_range stack s) arrays a ready.apart.1.0 (one_of mem a part there) (in_stack a frame)
+        off_array a there frame = apart_from (stack_range stack s) arrays a ready.apart.1.0 (one_of mem a part there)
+            (in_stack a frame)
 
     pub begins : (mem : Bytes) → IsPart arrays mem s.mem → Before here m mem nothing k m
     begins mem part =
@@ -265,11 +278,13 @@ module _ (f : Flat) (plan : Plan) (placement : IsPlacement f plan) (code : List 
     -- a register that is no temporary and not sp still holds what it held at the call
     pub same_register : (r : ℕ) → r ≢ 2 → (5 ≤ r → 8 ≤ r) → register m.regs r ≡ register s.regs r
     same_register r other not_temporary =
-        saved.kept r (record { not_sp = other; not_temporary = not_temporary; not_held = refl }) ∙ register-with_register_other s.regs 2 base r other
+        saved.kept r (record { not_sp = other; not_temporary = not_temporary; not_held = refl })
+        ∙ register-with_register_other s.regs 2 base r other
 
     pub same_arguments : (n : ℕ) → n ≤ 8 → arguments m.regs n ≡ arguments s.regs n
     same_arguments zero few = refl
     same_arguments (suc n) few =
         let rest = same_arguments n (omega arith) in
-        let register_is : register m.regs (10 + n) ≡ register s.regs (10 + n) = same_register (10 + n) (λ e. omega arith) (λ h. omega arith) in
+        let register_is : register m.regs (10 + n)
+        ≡ register s.regs (10 + n) = same_register (10 + n) (λ e. omega arith) (λ h. omega arith) in
         rw (rest, register_is) refl

@@ -1,5 +1,6 @@
 -- How instructions run, one after another, from a state that stands before them.
-use Rattle.std.proofs.Common.{◌≡◌, ◌≢◌, ℕ, zero, suc, ◌+◌, ◌*◌, ◌%◌, ◌<◌, ◌≤◌, List, [], ◌∷◌, ◌++◌, length, Option, Some, None, Result, Ok, Err, slice_get, refl, ap, ◌∙◌, subst, arith}
+use Rattle.std.proofs.Common.{◌≡◌, ◌≢◌, ℕ, zero, suc, ◌+◌, ◌*◌, ◌%◌, ◌<◌, ◌≤◌, List, [], ◌∷◌, ◌++◌, length, Option, Some, None}
+use Rattle.std.proofs.Common.{Result, Ok, Err, slice_get, refl, ap, ◌∙◌, subst, arith}
 use Rattle.std.specs.FinMap.{get}
 use Rattle.bed_meaning.specs.State.{spend}
 use Rattle.bed_meaning.specs.Fuelled.{and_then, given, take_one, fuelled}
@@ -70,19 +71,23 @@ module _ (l : Site) (m : State) (sound : Sound l m) where
       by_byte (Some b) is = absurd (memory.off_image a (cc) inside)
 
   -- the code still stands
-  code_at : (mem : Bytes) (vars : Vars) (k : ℕ) (i : Instr) (s : State) → Before l m mem vars k s → Has l.code k i → number_at s.mem 4 s.pc ≡ Some (word_of i)
+  code_at : (mem : Bytes) (vars : Vars) (k : ℕ) (i : Instr) (s : State) → Before l m mem vars k s → Has l.code k i
+      → number_at s.mem 4 s.pc ≡ Some (word_of i)
   code_at mem vars k i s before has =
       let next = has.next in
-      let agree = number_at_agree 4 m.mem s.mem (l.start + 4 * k) (λ a low high. same_in_image mem s.mem a before.memory (omega arith, omega arith)) in
+      let agree = number_at_agree 4 m.mem s.mem (l.start + 4 * k)
+      (λ a low high. same_in_image mem s.mem a before.memory (omega arith, omega arith)) in
       ap (number_at s.mem 4) before.pc ∙ agree ∙ sound.stands k i has.stands
 
-  pub step_at : (mem : Bytes) (vars : Vars) (k : ℕ) (i : Instr) (s : State) (answer : Answer) → Before l m mem vars k s → Has l.code k i → effect i s ≡ answer → step s ≡ answer
+  pub step_at : (mem : Bytes) (vars : Vars) (k : ℕ) (i : Instr) (s : State) (answer : Answer) → Before l m mem vars k s
+      → Has l.code k i → effect i s ≡ answer → step s ≡ answer
   step_at mem vars k i s answer before has does =
       let aligned : s.pc % 4 ≡ 0 = omega (arith, before.pc, sound.aligned) in
       step_by s (word_of i) answer aligned (code_at mem vars k i s before has) (row_of s i ∙ does)
 
   -- one step, and the run behind it
-  pub step_reach : (t k2 : ℕ) (mem : Bytes) (vars : Vars) (k : ℕ) (i : Instr) (s u : State) (r : Result flat.State Halt) → Before l m mem vars k s → Has l.code k i → effect i s ≡ Ok u → Reaches (t + 1) k2 u r → Reaches t k2 s r
+  pub step_reach : (t k2 : ℕ) (mem : Bytes) (vars : Vars) (k : ℕ) (i : Instr) (s u : State) (r : Result flat.State Halt)
+      → Before l m mem vars k s → Has l.code k i → effect i s ≡ Ok u → Reaches (t + 1) k2 u r → Reaches t k2 s r
   step_reach t k2 mem vars k i s u (Err h) before has does on = tt
   step_reach t k2 mem vars k i s u (Ok f) before has does on =
       let next = has.next in
@@ -90,7 +95,8 @@ module _ (l : Site) (m : State) (sound : Sound l m) where
       let first = leads_on (InCode l) s 0 s u (stays (InCode l) s) here (step_at mem vars k i s (Ok u) before has does) in
       (1 + on.0, on.1, omega (arith, on.2), leads_then (InCode l) s 1 u on.0 on.1 first on.3, on.4)
 
-  pub next_pc : (mem : Bytes) (vars : Vars) (k : ℕ) (i : Instr) (s : State) → Before l m mem vars k s → Has l.code k i → plus s.pc 4 ≡ l.start + 4 * (k + 1)
+  pub next_pc : (mem : Bytes) (vars : Vars) (k : ℕ) (i : Instr) (s : State) → Before l m mem vars k s → Has l.code k i
+      → plus s.pc 4 ≡ l.start + 4 * (k + 1)
   next_pc mem vars k i s before has = let next = has.next in omega (arith, before.pc, sound.ends)
 
   -- a temporary register is set
@@ -99,21 +105,31 @@ module _ (l : Site) (m : State) (sound : Sound l m) where
   holds_set s d v w (Register r) low high valid there =
       register-with_register_other s.regs d v r (λ e. omega (arith, sound.from r valid)) ∙ there
 
-  pub before_set : (mem : Bytes) (vars : Vars) (k : ℕ) (i : Instr) (s : State) (d v : ℕ) → 5 ≤ d → d ≤ 7 → Before l m mem vars k s → Has l.code k i → Before l m mem vars (k + 1) (set_reg s d v)
+  pub before_set : (mem : Bytes) (vars : Vars) (k : ℕ) (i : Instr) (s : State) (d v : ℕ) → 5 ≤ d → d ≤ 7 → Before l m mem vars k s
+      → Has l.code k i → Before l m mem vars (k + 1) (set_reg s d v)
   before_set mem vars k i s d v low high before has =
       record {
         pc = next_pc mem vars k i s before has;
         count = length-with_register s.regs d v ∙ before.count;
         sp = register-with_register_other s.regs d v 2 (λ e. omega arith) ∙ before.sp;
         kept = λ r free. register-with_register_other s.regs d v r (λ e. omega (arith, free.not_temporary)) ∙ before.kept r free;
-        held = λ x w found. let h = before.held x w found in record { valid = h.valid; word = h.word; there = holds_set s d v w (place_of x) low high h.valid h.there };
+        held = λ x w found. let h = before.held x w found in
+            record { valid = h.valid; word = h.word; there = holds_set s d v w (place_of x) low high h.valid h.there };
         memory = before.memory;
       }
 
-  pub set_reach : (t k2 : ℕ) (mem : Bytes) (vars : Vars) (k : ℕ) (i : Instr) (s : State) (d v : ℕ) (r : Result flat.State Halt) → 5 ≤ d → d ≤ 7 → Before l m mem vars k s → Has l.code k i → effect i s ≡ gives s d v → ((u : State) → Before l m mem vars (k + 1) u → IsSet s u d v → Reaches (t + 1) k2 u r) → Reaches t k2 s r
+  pub set_reach : (t k2 : ℕ) (mem : Bytes) (vars : Vars) (k : ℕ) (i : Instr) (s : State) (d v : ℕ) (r : Result flat.State Halt)
+      → 5 ≤ d → d ≤ 7 → Before l m mem vars k s → Has l.code k i → effect i s ≡ gives s d v
+      → ((u : State) → Before l m mem vars (k + 1) u → IsSet s u d v → Reaches (t + 1) k2 u r) → Reaches t k2 s r
   set_reach t k2 mem vars k i s d v r low high before has does on =
-      let is : IsSet s (set_reg s d v) d v = record { value = register-with_register_same s.regs d v (omega arith) (omega (arith, before.count)); others = λ q other. register-with_register_other s.regs d v q other; mem = refl } in
-      step_reach t k2 mem vars k i s (set_reg s d v) r before has (does ∙ gives_is s d v) (on (set_reg s d v) (before_set mem vars k i s d v low high before has) is)
+      let is : IsSet s (set_reg s d v) d v =
+      record {
+        value = register-with_register_same s.regs d v (omega arith) (omega (arith, before.count));
+        others = λ q other. register-with_register_other s.regs d v q other;
+        mem = refl;
+      } in
+      step_reach t k2 mem vars k i s (set_reg s d v) r before has (does ∙ gives_is s d v)
+      (on (set_reg s d v) (before_set mem vars k i s d v low high before has) is)
 
   -- the run is where it should be
   pub ends_at : (t k : ℕ) (s : State) (f : flat.State) → t ≤ f.ticks → Before l m f.mem f.vars k s → Reaches t k s (Ok f)
@@ -128,19 +144,32 @@ module _ (l : Site) (m : State) (sound : Sound l m) where
   later t t1 k s (Ok f) less reach = (reach.0, reach.1, omega (arith, reach.2), reach.3, reach.4)
 
   -- a run, and the run from where it ends
-  pub then_reach : (t k1 k2 : ℕ) (s : State) (r : Result flat.State Halt) (next : Rule) → Reaches t k1 s r → ((f : flat.State) (u : State) → Before l m f.mem f.vars k1 u → Reaches f.ticks k2 u (next f)) → Reaches t k2 s (and_then r next)
+  pub then_reach : (t k1 k2 : ℕ) (s : State) (r : Result flat.State Halt) (next : Rule) → Reaches t k1 s r
+      → ((f : flat.State) (u : State) → Before l m f.mem f.vars k1 u → Reaches f.ticks k2 u (next f))
+      → Reaches t k2 s (and_then r next)
   then_reach t k1 k2 s (Err h) next reach on = tt
   then_reach t k1 k2 s (Ok f) next reach on = joined (next f) (on f reach.1 reach.4)
     where
       joined : (r : Result flat.State Halt) → Reaches f.ticks k2 reach.1 r → Reaches t k2 s r
       joined (Err h) second = tt
-      joined (Ok g) second = (reach.0 + second.0, second.1, omega (arith, reach.2, second.2), leads_then (InCode l) s reach.0 reach.1 second.0 second.1 reach.3 second.3, second.4)
+      joined (Ok g) second = (
+        reach.0
+            + second.0,
+        second.1,
+        omega (arith, reach.2, second.2),
+        leads_then (InCode l) s reach.0 reach.1 second.0 second.1
+            reach.3 second.3,
+        second.4,
+      )
 
-  pub given_reach : {A : Type 0} (t k : ℕ) (s : State) (o : Option A) (next : A → Result flat.State Halt) → ((x : A) → o ≡ Some x → Reaches t k s (next x)) → Reaches t k s (given o next)
+  pub given_reach : {A : Type 0} (t k : ℕ) (s : State) (o : Option A) (next : A → Result flat.State Halt)
+      → ((x : A) → o ≡ Some x → Reaches t k s (next x)) → Reaches t k s (given o next)
   given_reach t k s None next on = tt
   given_reach t k s (Some x) next on = on x refl
 
-  pub fuelled_reach : (t k : ℕ) (s : State) (next : Rule) (f : flat.State) → ((n : ℕ) → Reaches t k s (next (record { fuel = n; ticks = f.ticks; mem = f.mem; vars = f.vars }))) → Reaches t k s (fuelled next f)
+  pub fuelled_reach : (t k : ℕ) (s : State) (next : Rule) (f : flat.State)
+      → ((n : ℕ) → Reaches t k s (next (record { fuel = n; ticks = f.ticks; mem = f.mem; vars = f.vars })))
+      → Reaches t k s (fuelled next f)
   fuelled_reach t k s next f on = by_fuel f.fuel
     where
       by_fuel : (n : ℕ) → Reaches t k s (take_one n f next)

@@ -1,5 +1,6 @@
 -- Where code stands, and what holds of the machine while the code runs.
-use Rattle.std.proofs.Common.{◌≡◌, ◌≢◌, ℕ, ◌+◌, ◌-◌, ◌*◌, ◌%◌, ◌^◌, ◌<◌, ◌≤◌, Bool, true, false, nat_lt, List, length, Some, None, IsSome, slice_get, refl, arith, if◌then◌else◌}
+use Rattle.std.proofs.Common.{◌≡◌, ◌≢◌, ℕ, ◌+◌, ◌-◌, ◌*◌, ◌%◌, ◌^◌, ◌<◌, ◌≤◌, Bool, true, false, nat_lt, List, length, Some, None}
+use Rattle.std.proofs.Common.{IsSome, slice_get, refl, arith, if◌then◌else◌}
 use Rattle.std.proofs.lemmas.Bool.{ltb-false}
 use Rattle.std.specs.FinMap.{get}
 use Rattle.flat_lang.specs.State.{Vars}
@@ -115,7 +116,8 @@ pub slot_number : (n j : ℕ) → place_of n ≡ Slot j → n ≡ 32 + j
 slot_number n j is = slot_by n j (nat_lt n 32) refl is
 
 pub place_slot : (j : ℕ) → place_of (32 + j) ≡ Slot j
-place_slot j = let high : nat_lt (32 + j) 32 ≡ false = grind arith in let same : 32 + j - 32 ≡ j = omega arith in rw (high, same) refl
+place_slot j = let high : nat_lt (32 + j) 32 ≡ false = grind arith in let same : 32 + j - 32 ≡ j = omega arith in
+    rw (high, same) refl
 
 -- the register of a valid place, or a temporary one
 module _ (l : Site) (m : State) (sound : Sound l m) where

@@ -1,5 +1,6 @@
 -- Bytes that stand in the memory: parts of them, and the words and tables that they make.
-use Rattle.std.proofs.Common.{◌≡◌, ℕ, zero, suc, ◌+◌, ◌*◌, ◌/◌, ◌%◌, ◌^◌, ◌<◌, List, [], ◌∷◌, ◌++◌, length, Some, slice_get, refl, ap, ◌∙◌, arith, zero-add, length-append}
+use Rattle.std.proofs.Common.{◌≡◌, ℕ, zero, suc, ◌+◌, ◌*◌, ◌/◌, ◌%◌, ◌^◌, ◌<◌, List, [], ◌∷◌, ◌++◌, length, Some, slice_get, refl}
+use Rattle.std.proofs.Common.{ap, ◌∙◌, arith, zero-add, length-append}
 use Rattle.std.specs.List.{flat_map}
 use Rattle.std.specs.Int.{w32, to_le_bytes}
 use Rattle.rv_machine.specs.State.{number_at}
@@ -34,9 +35,11 @@ word_stands mem start w below stands =
     let here : start + 0 ≡ start = omega arith in
     let first = rw here at (stands 0 (w % 256) refl) in
     let whole : w % 256 + 256 * (w / 256 % 256 + 256 * (w / 65536 % 256 + 256 * (w / 16777216 % 256))) ≡ w = omega arith in
-    number_at_four mem start (w % 256) (w / 256 % 256) (w / 65536 % 256) (w / 16777216 % 256) first (stands 1 _ refl) (stands 2 _ refl) (stands 3 _ refl) ∙ ap Some whole
+    number_at_four mem start (w % 256) (w / 256 % 256) (w / 65536 % 256) (w / 16777216 % 256) first (stands 1 _ refl)
+    (stands 2 _ refl) (stands 3 _ refl) ∙ ap Some whole
 
-pub words_stand : (mem : Bytes) (words : List ℕ) (start k w : ℕ) → Stands mem start (word_bytes words) → slice_get words k ≡ Some w → w < 2 ^ 32 → number_at mem 4 (start + 4 * k) ≡ Some w
+pub words_stand : (mem : Bytes) (words : List ℕ) (start k w : ℕ) → Stands mem start (word_bytes words)
+    → slice_get words k ≡ Some w → w < 2 ^ 32 → number_at mem 4 (start + 4 * k) ≡ Some w
 words_stand mem [] start k w stands found below = absurd (cc)
 words_stand mem (x ∷ words) start zero w stands found below =
     let here : start + 4 * 0 ≡ start = omega arith in

@@ -44,7 +44,10 @@ jumps_step (f.While a x b) = 2 + one_if_far (all_weight b) + (all_jumps a + all_
 jumps_step y = 0
 
 abbrev pub branching_step : FStmt-F Branching → Branching
-branching_step y = record { weight = stmt_weight_step weights.Weights.LARGE (map-FStmt Branching ℕ (λ b. b.weight) y); jumps = jumps_step y }
+branching_step y = record {
+  weight = stmt_weight_step weights.Weights.LARGE (map-FStmt Branching ℕ (λ b. b.weight) y);
+  jumps = jumps_step y;
+}
 
 abbrev pub branching : FStmt → Branching
 branching = fold-FStmt Branching branching_step

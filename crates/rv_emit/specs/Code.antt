@@ -1,7 +1,8 @@
 -- The instructions of three-address code over places. What lives in a register is used there, and made there. What lives in
 -- a slot comes into t0 or t1, which are x5 and x6, and goes there from t0; the stack pointer is x2. Code depends on how many
 -- instructions follow it, up to the end of the whole code, behind which the text of the tables stands.
-use Rattle.std.specs.Prelude.{ℕ, suc, ◌+◌, ◌-◌, ◌*◌, ◌/◌, ◌%◌, ◌^◌, Bool, true, false, nat_lt, List, [], ◌∷◌, ◌++◌, length, map, if◌then◌else◌}
+use Rattle.std.specs.Prelude.{ℕ, suc, ◌+◌, ◌-◌, ◌*◌, ◌/◌, ◌%◌, ◌^◌, Bool, true, false, nat_lt, List, [], ◌∷◌, ◌++◌, length, map}
+use Rattle.std.specs.Prelude.{if◌then◌else◌}
 use Rattle.bed_syntax.specs.declared.operation.BOp.{BOp}
 use Rattle.bed_syntax.specs.declared.operation.BOp.TheVariants as op
 use Rattle.bed_syntax.specs.declared.operation.Size.{Size}
@@ -12,7 +13,9 @@ use Rattle.reg_alloc.specs.declared.plan.At.{At}
 use Rattle.reg_alloc.specs.declared.plan.At.TheVariants.{Reg as Register, Slot}
 use Rattle.rv_code.specs.Field.{reg, imm12, imm13, imm20, imm21}
 use Rattle.rv_code.specs.declared.instruction.Instr.{Instr}
-use Rattle.rv_code.specs.declared.instruction.Instr.TheVariants.{Lui, Auipc, Jal, Beq, Bne, Lw, Lbu, Lhu, Sb, Sh, Sw, Addi, Sltiu, Add, Sub, Sll, Slt, Sltu, Xor, Srl, Sra, Or, And, Mul, Mulhu, Divu, Remu}
+use Rattle.rv_code.specs.declared.instruction.Instr.TheVariants.{Lui, Auipc, Jal, Beq, Bne, Lw, Lbu, Lhu, Sb, Sh, Sw, Addi, Sltiu}
+use Rattle.rv_code.specs.declared.instruction.Instr.TheVariants.{Add, Sub, Sll, Slt, Sltu, Xor, Srl, Sra, Or, And, Mul, Mulhu}
+use Rattle.rv_code.specs.declared.instruction.Instr.TheVariants.{Divu, Remu}
 
 -- the place of a number: a register's own number is below 32, and the slots' numbers follow
 abbrev pub place_of : ℕ → At
@@ -130,7 +133,8 @@ in_row (code ∷ rest) n = let behind = in_row rest n in code (length behind + n
 abbrev pub look_up : Size → At → ℕ → At → Code
 look_up size to offset from n =
     let far = ahead offset (2 + length (to_slot to) + n) in
-    from_slot 5 from ++ (Auipc (reg 6) (imm20 (upper far)) ∷ Add (reg 5) (reg (register_of 5 from)) (reg 6) ∷ load_at size (register_of 5 to) 5 far ∷ to_slot to)
+    from_slot 5 from ++ (Auipc (reg 6) (imm20 (upper far)) ∷ Add (reg 5) (reg (register_of 5 from)) (reg 6)
+    ∷ load_at size (register_of 5 to) 5 far ∷ to_slot to)
 
 -- a conditional over the place of its test: the first side with a jump over the second, which is where it is left for 0
 abbrev pub if_code : At → Code → Code → Code
@@ -152,10 +156,13 @@ abbrev pub stmt_code_step : (ℕ → At) → (ℕ → ℕ) → FStmt-F Code → 
 stmt_code_step place offset (f.Lit x v) n = literal (register_of 5 (place x)) v ++ to_slot (place x)
 stmt_code_step place offset (f.Copy x y) n = copied (place x) (place y)
 stmt_code_step place offset (f.Bin op x y z) n =
-    from_slot 5 (place y) ++ (from_slot 6 (place z) ++ (operation op (register_of 5 (place x)) (register_of 5 (place y)) (register_of 6 (place z)) ++ to_slot (place x)))
-stmt_code_step place offset (f.Load size x y) n = from_slot 5 (place y) ++ (load_at size (register_of 5 (place x)) (register_of 5 (place y)) 0 ∷ to_slot (place x))
+    from_slot 5 (place y) ++ (from_slot 6 (place z)
+    ++ (operation op (register_of 5 (place x)) (register_of 5 (place y)) (register_of 6 (place z)) ++ to_slot (place x)))
+stmt_code_step place offset (f.Load size x y) n =
+    from_slot 5 (place y) ++ (load_at size (register_of 5 (place x)) (register_of 5 (place y)) 0 ∷ to_slot (place x))
 stmt_code_step place offset (f.Table size x k y) n = look_up size (place x) (offset k) (place y) n
-stmt_code_step place offset (f.Store size x y) n = from_slot 5 (place x) ++ (from_slot 6 (place y) ++ store_to size (register_of 5 (place x)) (register_of 6 (place y)) ∷ [])
+stmt_code_step place offset (f.Store size x y) n =
+    from_slot 5 (place x) ++ (from_slot 6 (place y) ++ store_to size (register_of 5 (place x)) (register_of 6 (place y)) ∷ [])
 stmt_code_step place offset (f.If x a b) n = if_code (place x) (in_row a) (in_row b) n
 stmt_code_step place offset (f.While a x b) n = while_code (in_row a) (place x) (in_row b) n
 

@@ -5,7 +5,8 @@ use Rattle.bed_syntax.specs.Named.{Name, MUL, MULHU, DIVU, REMU, AND, OR, SLL, S
 use Rattle.rv_code.specs.Field.{reg, imm12}
 use Rattle.rv_code.specs.Word.{word_of}
 use Rattle.rv_code.specs.declared.instruction.Instr.{Instr}
-use Rattle.rv_code.specs.declared.instruction.Instr.TheVariants.{Lbu, Lhu, Sb, Sh, Sll, Slt, Srl, Sra, Or, And, Mul, Mulhu, Divu, Remu}
+use Rattle.rv_code.specs.declared.instruction.Instr.TheVariants.{Lbu, Lhu, Sb, Sh, Sll, Slt, Srl, Sra, Or, And, Mul, Mulhu, Divu}
+use Rattle.rv_code.specs.declared.instruction.Instr.TheVariants.{Remu}
 
 abbrev pub instr_names : Instr → List Name
 instr_names (Mul rd rs1 rs2) = MUL ∷ []

@@ -19,4 +19,5 @@ offsets_from start (bytes ∷ tables) = start ∷ offsets_from (start + length (
 
 -- each table stands in the text, and begins at a multiple of four
 abbrev pub AreAligned : List (List ℕ) → List ℕ → Type 0
-AreAligned tables text = (k : ℕ) (bytes : List ℕ) → slice_get tables k ≡ Some bytes → (offset : ℕ) × (offset % 4 ≡ 0) × ((a b : ℕ) → slice_get bytes a ≡ Some b → slice_get text (offset + a) ≡ Some b)
+AreAligned tables text = (k : ℕ) (bytes : List ℕ) → slice_get tables k ≡ Some bytes
+    → (offset : ℕ) × (offset % 4 ≡ 0) × ((a b : ℕ) → slice_get bytes a ≡ Some b → slice_get text (offset + a) ≡ Some b)

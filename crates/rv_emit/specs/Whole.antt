@@ -1,7 +1,8 @@
 -- The whole code: the frame is taken, the registers of the caller that hold variables go into it, the arguments that are live
 -- go from a0 to a7, which are x10 to x17, into their places, the body runs, the results go into a0 and a1, the registers come
 -- back, the frame is given back, and ra, which is x1, is where it returns to.
-use Rattle.std.specs.Prelude.{ℕ, ◌+◌, ◌-◌, ◌*◌, ◌/◌, Bool, false, ◌||◌, nat_eq, nat_lt, List, [], ◌∷◌, ◌++◌, length, filter, slice_index_or, if◌then◌else◌}
+use Rattle.std.specs.Prelude.{ℕ, ◌+◌, ◌-◌, ◌*◌, ◌/◌, Bool, false, ◌||◌, nat_eq, nat_lt, List, [], ◌∷◌, ◌++◌, length, filter}
+use Rattle.std.specs.Prelude.{slice_index_or, if◌then◌else◌}
 use Rattle.flat_lang.specs.Paths.{some_takes, flat_ways}
 use Rattle.flat_lang.specs.declared.flat.Flat.{Flat}
 use Rattle.reg_alloc.specs.Kept.{place_number}
@@ -83,12 +84,14 @@ offset_in f k = slice_index_or (offsets_from 0 f.tables) k 0
 
 abbrev pub entering : Plan → List ℕ → List Instr
 entering plan live =
-    Addi (reg 2) (reg 2) (imm12 (4096 - stack_of plan.places)) ∷ (saves (slots_in plan.places) (saved_in plan.places) ++ moves_in (place plan) live)
+    Addi (reg 2) (reg 2) (imm12 (4096 - stack_of plan.places))
+    ∷ (saves (slots_in plan.places) (saved_in plan.places) ++ moves_in (place plan) live)
 
 abbrev pub leaving : Plan → List ℕ → List Instr
 leaving plan rets =
     moves_out (place plan) 0 rets
-    ++ (restores (slots_in plan.places) (saved_in plan.places) ++ (Addi (reg 2) (reg 2) (imm12 (stack_of plan.places)) ∷ Jalr (reg 0) (reg 1) (imm12 0) ∷ []))
+    ++ (restores (slots_in plan.places) (saved_in plan.places)
+    ++ (Addi (reg 2) (reg 2) (imm12 (stack_of plan.places)) ∷ Jalr (reg 0) (reg 1) (imm12 0) ∷ []))
 
 abbrev pub enter : Flat → Plan → List Instr
 enter f plan = entering plan (live_arguments f)

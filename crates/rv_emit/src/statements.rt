@@ -1,5 +1,6 @@
 //! The code of statements, from its end to its start: so each distance is known when its jump is made.
-ghost use Rattle.std.specs.Prelude.{◌≡◌, [], ◌∷◌, ◌++◌, ◌+◌, ◌-◌, ◌*◌, ◌%◌, ◌<◌, ◌≤◌, ◌^◌, OnOk, drop, length, map, slice_get, slice_index_or, slice_set, Some, true};
+ghost use Rattle.std.specs.Prelude.{◌≡◌, [], ◌∷◌, ◌++◌, ◌+◌, ◌-◌, ◌*◌, ◌%◌, ◌<◌, ◌≤◌, ◌^◌, OnOk, drop, length, map, slice_get};
+ghost use Rattle.std.specs.Prelude.{slice_index_or, slice_set, Some, true};
 ghost use Rattle.rv_code.specs.Word.{word_of};
 ghost use Rattle.flat_lang.specs.Whole.{is_whole, all_whole};
 ghost use Rattle.flat_lang.specs.Count.{stmt_weight, code_weight};
@@ -34,7 +35,8 @@ fn set(plan: &Plan, x: u32, value: u32, code: &mut Vec<Instr>) -> Result<(), NoM
     requires plan { IsPlan plan.now }
     requires known { x < length plan.now.places }
     ensures counted { OnOk result (length code.new.items ≤ length code.old.items + 3) }
-    ensures words { OnOk result (Puts code.old.items code.new.items (spec.literal (register_of 5 (whole.place plan.now x)) value ++ to_slot (whole.place plan.now x))) }
+    ensures words { OnOk result (Puts code.old.items code.new.items
+        (spec.literal (register_of 5 (whole.place plan.now x)) value ++ to_slot (whole.place plan.now x))) }
 {
     let to = place(plan, x);
     to_slot(to, code)?;
@@ -46,7 +48,8 @@ fn copy(plan: &Plan, x: u32, y: u32, code: &mut Vec<Instr>) -> Result<(), NoMemo
     requires to { x < length plan.now.places }
     requires from { y < length plan.now.places }
     ensures counted { OnOk result (length code.new.items ≤ length code.old.items + 2) }
-    ensures words { OnOk result (Puts code.old.items code.new.items (spec.copied (whole.place plan.now x) (whole.place plan.now y))) }
+    ensures words { OnOk result (Puts code.old.items code.new.items
+        (spec.copied (whole.place plan.now x) (whole.place plan.now y))) }
 {
     copied(place(plan, x), place(plan, y), code)
 }
@@ -57,7 +60,11 @@ fn bin(plan: &Plan, op: BOp, x: u32, y: u32, z: u32, code: &mut Vec<Instr>) -> R
     requires first { y < length plan.now.places }
     requires second { z < length plan.now.places }
     ensures counted { OnOk result (length code.new.items ≤ length code.old.items + 5) }
-    ensures words { OnOk result (Puts code.old.items code.new.items (from_slot 5 (whole.place plan.now y) ++ (from_slot 6 (whole.place plan.now z) ++ (spec.operation op (register_of 5 (whole.place plan.now x)) (register_of 5 (whole.place plan.now y)) (register_of 6 (whole.place plan.now z)) ++ to_slot (whole.place plan.now x))))) }
+    ensures words { OnOk result (Puts code.old.items code.new.items
+        (from_slot 5 (whole.place plan.now y)
+        ++ (from_slot 6 (whole.place plan.now z)
+        ++ (spec.operation op (register_of 5 (whole.place plan.now x)) (register_of 5 (whole.place plan.now y))
+        (register_of 6 (whole.place plan.now z)) ++ to_slot (whole.place plan.now x))))) }
 {
     let to = place(plan, x);
     let first = place(plan, y);
@@ -79,7 +86,10 @@ fn load(plan: &Plan, size: Size, x: u32, y: u32, code: &mut Vec<Instr>) -> Resul
     requires to { x < length plan.now.places }
     requires from { y < length plan.now.places }
     ensures counted { OnOk result (length code.new.items ≤ length code.old.items + 3) }
-    ensures words { OnOk result (Puts code.old.items code.new.items (from_slot 5 (whole.place plan.now y) ++ (spec.load_at size (register_of 5 (whole.place plan.now x)) (register_of 5 (whole.place plan.now y)) 0 ∷ to_slot (whole.place plan.now x)))) }
+    ensures words { OnOk result (Puts code.old.items code.new.items
+        (from_slot 5 (whole.place plan.now y)
+        ++ (spec.load_at size (register_of 5 (whole.place plan.now x)) (register_of 5 (whole.place plan.now y)) 0
+        ∷ to_slot (whole.place plan.now x)))) }
 {
     let to = place(plan, x);
     let from = place(plan, y);
@@ -101,7 +111,10 @@ fn store(plan: &Plan, size: Size, x: u32, y: u32, code: &mut Vec<Instr>) -> Resu
     requires to { x < length plan.now.places }
     requires from { y < length plan.now.places }
     ensures counted { OnOk result (length code.new.items ≤ length code.old.items + 3) }
-    ensures words { OnOk result (Puts code.old.items code.new.items (from_slot 5 (whole.place plan.now x) ++ (from_slot 6 (whole.place plan.now y) ++ spec.store_to size (register_of 5 (whole.place plan.now x)) (register_of 6 (whole.place plan.now y)) ∷ []))) }
+    ensures words { OnOk result (Puts code.old.items code.new.items
+        (from_slot 5 (whole.place plan.now x)
+        ++ (from_slot 6 (whole.place plan.now y)
+        ++ spec.store_to size (register_of 5 (whole.place plan.now x)) (register_of 6 (whole.place plan.now y)) ∷ []))) }
 {
     let address = place(plan, x);
     let value = place(plan, y);
@@ -144,7 +157,8 @@ fn look_up(
     requires known { k < length offsets.now }
     requires room { length code.old.items ≤ 259000 }
     ensures counted { OnOk result (length code.new.items ≤ length code.old.items + 5) }
-    ensures words { OnOk result (Puts code.old.items code.new.items (spec.look_up size (whole.place plan.now x) (offset_of offsets.now k) (whole.place plan.now y) (length code.old.items))) }
+    ensures words { OnOk result (Puts code.old.items code.new.items
+        (spec.look_up size (whole.place plan.now x) (offset_of offsets.now k) (whole.place plan.now y) (length code.old.items))) }
 {
     let to = place(plan, x);
     let from = place(plan, y);
@@ -179,7 +193,9 @@ fn test(plan: &Plan, x: u32, since: usize, code: &mut Vec<Instr>) -> Result<(), 
     requires before { since ≤ length code.old.items }
     requires short { length code.old.items ≤ 260000 }
     ensures counted { OnOk result (length code.new.items ≤ length code.old.items + 3) }
-    ensures words { OnOk result (Puts code.old.items code.new.items (from_slot 5 (whole.place plan.now x) ++ spec.over (register_of 5 (whole.place plan.now x)) (length code.old.items - since))) }
+    ensures words { OnOk result (Puts code.old.items code.new.items
+        (from_slot 5 (whole.place plan.now x)
+        ++ spec.over (register_of 5 (whole.place plan.now x)) (length code.old.items - since))) }
 {
     let at = place(plan, x);
     let count = (code.len() - since) as u32;
@@ -203,7 +219,8 @@ fn turn_back(last: usize, code: &mut Vec<Instr>)
     requires known { last < length code.old.items }
     requires short { length code.old.items ≤ 260000 }
     ensures counted { length code.new.items ≡ length code.old.items }
-    ensures words { map word_of code.new.items ≡ slice_set (map word_of code.old.items) last (word_of (spec.jump_back (length code.old.items - last - 1))) }
+    ensures words { map word_of code.new.items
+        ≡ slice_set (map word_of code.old.items) last (word_of (spec.jump_back (length code.old.items - last - 1))) }
 {
     let count = (code.len() - last - 1) as u32;
     code[last] = jump_back(count);
@@ -237,7 +254,8 @@ fn statement(plan: &Plan, offsets: &[u64], c: &FStmt, code: &mut Vec<Instr>) -> 
     requires room { length code.old.items + stmt_weight Weights.LARGE c.now ≤ 259000 }
     ensures counted { OnOk result (length code.new.items ≤ length code.old.items + stmt_weight Weights.LARGE c.now) }
     ensures fit { OnOk result (fits c.now ≡ true) }
-    ensures words { OnOk result (Puts code.old.items code.new.items (stmt_code (whole.place plan.now) (offset_of offsets.now) c.now (length code.old.items))) }
+    ensures words { OnOk result (Puts code.old.items code.new.items
+        (stmt_code (whole.place plan.now) (offset_of offsets.now) c.now (length code.old.items))) }
 {
     match c {
         FStmt::Lit(x, value) => set(plan, *x, *value, code),
@@ -280,7 +298,8 @@ pub fn block(
     requires room { length code.old.items + code_weight Weights.LARGE cs.now ≤ 259000 }
     ensures counted { OnOk result (length code.new.items ≤ length code.old.items + code_weight Weights.LARGE cs.now) }
     ensures fit { OnOk result (all_fit cs.now ≡ true) }
-    ensures words { OnOk result (Puts code.old.items code.new.items (block_code (whole.place plan.now) (offset_of offsets.now) cs.now (length code.old.items))) }
+    ensures words { OnOk result (Puts code.old.items code.new.items
+        (block_code (whole.place plan.now) (offset_of offsets.now) cs.now (length code.old.items))) }
 {
     let start = code.len();
     let mut i = cs.len();

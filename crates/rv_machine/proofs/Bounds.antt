@@ -1,8 +1,11 @@
 -- What the instructions compute from words is a word.
-use Rattle.std.proofs.Common.{ℕ, zero, suc, ◌+◌, ◌-◌, ◌*◌, ◌/◌, ◌%◌, ◌^◌, ◌<◌, ◌≤◌, Bool, true, false, List, [], ◌∷◌, Option, Some, None, ℤ, pos, negsuc, slice_get, bit_and, nat_lt, ◌==◌, if◌then◌else◌, arith}
+use Rattle.std.proofs.Common.{ℕ, zero, suc, ◌+◌, ◌-◌, ◌*◌, ◌/◌, ◌%◌, ◌^◌, ◌<◌, ◌≤◌, Bool, true, false, List, [], ◌∷◌, Option}
+use Rattle.std.proofs.Common.{Some, None, ℤ, pos, negsuc, slice_get, bit_and, nat_lt, ◌==◌, if◌then◌else◌, arith}
 use Rattle.std.proofs.lemmas.Nat.{xor_of_32, or_of_32, and_le_l}
 use Rattle.std.proofs.Math.Nat.{div-le_self, mod-le, mul-le-mul_left}
-use Rattle.rv_machine.specs.Word.{word, one_if, plus, minus, shifted_left, shifted_right, shifted_signed, less, less_signed, product, high_signed, high_mixed, high_unsigned, quotient_signed, quotient, remainder_signed, remainder}
+use Rattle.rv_machine.specs.Word.{word, one_if, plus, minus, shifted_left, shifted_right, shifted_signed, less, less_signed}
+use Rattle.rv_machine.specs.Word.{product, high_signed, high_mixed, high_unsigned, quotient_signed, quotient, remainder_signed}
+use Rattle.rv_machine.specs.Word.{remainder}
 use Rattle.rv_machine.specs.Fields.{extended}
 use Rattle.rv_machine.specs.Step.{basic, multiplies, applied, operation}
 
@@ -97,12 +100,27 @@ applied_below (f ∷ fs) all (suc k) a b below_a below_b = applied_below fs all.
 
 pub basic_below : (k a b : ℕ) → IsWord a → IsWord b → IsWordIf (applied (slice_get basic k) a b)
 basic_below =
-    applied_below basic (plus_below, (shifted_left_below, (less_signed_below, (less_below, (xor_of_32, (shifted_right_below, (or_of_32, (and_below, tt))))))))
+    applied_below basic (
+      plus_below,
+      (shifted_left_below, (less_signed_below, (less_below, (xor_of_32, (shifted_right_below, (or_of_32, (and_below, tt))))))),
+    )
 
 multiplies_below : (k a b : ℕ) → IsWord a → IsWord b → IsWordIf (applied (slice_get multiplies k) a b)
 multiplies_below =
-    applied_below multiplies (product_below, (high_signed_below, (high_mixed_below, (high_unsigned_below, (quotient_signed_below, (quotient_below, (remainder_signed_below, (remainder_below, tt))))))))
+    applied_below multiplies (
+      product_below,
+      (
+        high_signed_below,
+        (
+          high_mixed_below,
+          (high_unsigned_below, (quotient_signed_below, (quotient_below, (remainder_signed_below, (remainder_below, tt))))),
+        ),
+      ),
+    )
 
 pub operation_below : (f7 f3 a b : ℕ) → IsWord a → IsWord b → IsWordIf (operation f7 f3 a b)
 operation_below f7 f3 a b below_a below_b =
-    given_if (f7 == 0) _ _ (basic_below f3 a b below_a below_b) (given_if (f7 == 1) _ _ (multiplies_below f3 a b below_a below_b) (given_if (f7 == 32) _ _ (given_if (f3 == 0) _ _ (minus_below a b below_a below_b) (given_if (f3 == 5) _ _ (shifted_signed_below a b below_a below_b) tt)) tt))
+    given_if (f7 == 0) _ _ (basic_below f3 a b below_a below_b)
+    (given_if (f7 == 1) _ _ (multiplies_below f3 a b below_a below_b)
+    (given_if (f7 == 32) _ _ (given_if (f3 == 0) _ _ (minus_below a b below_a below_b)
+    (given_if (f3 == 5) _ _ (shifted_signed_below a b below_a below_b) tt)) tt))

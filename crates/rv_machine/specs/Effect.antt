@@ -1,9 +1,15 @@
 -- What an instruction does, by its fields: the rows of the table over instructions in place of their words.
 use Rattle.std.specs.Prelude.{◌*◌, ◌/◌, not, Err, ◌==◌, nat_lt, bit_and, bit_or, bit_xor}
 use Rattle.rv_code.specs.declared.instruction.Instr.{Instr}
-use Rattle.rv_code.specs.declared.instruction.Instr.TheVariants.{Lui, Auipc, Jal, Jalr, Beq, Bne, Blt, Bge, Bltu, Bgeu, Lb, Lh, Lw, Lbu, Lhu, Sb, Sh, Sw, Addi, Slti, Sltiu, Xori, Ori, Andi, Slli, Srli, Srai, Add, Sub, Sll, Slt, Sltu, Xor, Srl, Sra, Or, And, Mul, Mulh, Mulhsu, Mulhu, Div, Divu, Rem, Remu, Fence, Ecall as EcallCode, Ebreak as EbreakCode}
+use Rattle.rv_code.specs.declared.instruction.Instr.TheVariants.{Lui, Auipc, Jal, Jalr, Beq, Bne, Blt, Bge, Bltu, Bgeu, Lb, Lh}
+use Rattle.rv_code.specs.declared.instruction.Instr.TheVariants.{Lw, Lbu, Lhu, Sb, Sh, Sw, Addi, Slti, Sltiu, Xori, Ori, Andi}
+use Rattle.rv_code.specs.declared.instruction.Instr.TheVariants.{Slli, Srli, Srai, Add, Sub, Sll, Slt, Sltu, Xor, Srl, Sra, Or}
+use Rattle.rv_code.specs.declared.instruction.Instr.TheVariants.{And, Mul, Mulh, Mulhsu, Mulhu, Div, Divu, Rem, Remu, Fence}
+use Rattle.rv_code.specs.declared.instruction.Instr.TheVariants.{Ecall as EcallCode, Ebreak as EbreakCode}
 use Rattle.rv_machine.specs.declared.cause.Cause.TheVariants.{Ecall, Ebreak}
-use Rattle.rv_machine.specs.Word.{plus, minus, shifted_left, shifted_right, shifted_signed, less, is_less_signed, less_signed, product, high_signed, high_mixed, high_unsigned, quotient_signed, quotient, remainder_signed, remainder}
+use Rattle.rv_machine.specs.Word.{plus, minus, shifted_left, shifted_right, shifted_signed, less, is_less_signed, less_signed}
+use Rattle.rv_machine.specs.Word.{product, high_signed, high_mixed, high_unsigned, quotient_signed, quotient, remainder_signed}
+use Rattle.rv_machine.specs.Word.{remainder}
 use Rattle.rv_machine.specs.Fields.{extended}
 use Rattle.rv_machine.specs.State.{State, register}
 use Rattle.rv_machine.specs.Step.{Answer, gives, goes_on, jumps, branches, loaded, loads, stores}
@@ -13,14 +19,21 @@ effect (Lui rd imm) s = gives s rd.bits (imm.bits * 4096)
 effect (Auipc rd imm) s = gives s rd.bits (plus s.pc (imm.bits * 4096))
 effect (Jal rd imm) s = jumps s rd.bits (plus s.pc (extended 1048576 (2 * imm.half)))
 effect (Jalr rd rs1 imm) s = jumps s rd.bits (plus (register s.regs rs1.bits) (extended 2048 imm.bits) / 2 * 2)
-effect (Beq rs1 rs2 imm) s = branches s (plus s.pc (extended 4096 (2 * imm.half))) ((register s.regs rs1.bits) == (register s.regs rs2.bits))
-effect (Bne rs1 rs2 imm) s = branches s (plus s.pc (extended 4096 (2 * imm.half))) (not ((register s.regs rs1.bits) == (register s.regs rs2.bits)))
-effect (Blt rs1 rs2 imm) s = branches s (plus s.pc (extended 4096 (2 * imm.half))) (is_less_signed (register s.regs rs1.bits) (register s.regs rs2.bits))
-effect (Bge rs1 rs2 imm) s = branches s (plus s.pc (extended 4096 (2 * imm.half))) (not (is_less_signed (register s.regs rs1.bits) (register s.regs rs2.bits)))
-effect (Bltu rs1 rs2 imm) s = branches s (plus s.pc (extended 4096 (2 * imm.half))) (nat_lt (register s.regs rs1.bits) (register s.regs rs2.bits))
-effect (Bgeu rs1 rs2 imm) s = branches s (plus s.pc (extended 4096 (2 * imm.half))) (not (nat_lt (register s.regs rs1.bits) (register s.regs rs2.bits)))
+effect (Beq rs1 rs2 imm) s = branches s (plus s.pc (extended 4096 (2 * imm.half)))
+    ((register s.regs rs1.bits) == (register s.regs rs2.bits))
+effect (Bne rs1 rs2 imm) s = branches s (plus s.pc (extended 4096 (2 * imm.half)))
+    (not ((register s.regs rs1.bits) == (register s.regs rs2.bits)))
+effect (Blt rs1 rs2 imm) s = branches s (plus s.pc (extended 4096 (2 * imm.half)))
+    (is_less_signed (register s.regs rs1.bits) (register s.regs rs2.bits))
+effect (Bge rs1 rs2 imm) s = branches s (plus s.pc (extended 4096 (2 * imm.half)))
+    (not (is_less_signed (register s.regs rs1.bits) (register s.regs rs2.bits)))
+effect (Bltu rs1 rs2 imm) s = branches s (plus s.pc (extended 4096 (2 * imm.half)))
+    (nat_lt (register s.regs rs1.bits) (register s.regs rs2.bits))
+effect (Bgeu rs1 rs2 imm) s = branches s (plus s.pc (extended 4096 (2 * imm.half)))
+    (not (nat_lt (register s.regs rs1.bits) (register s.regs rs2.bits)))
 effect (Lb rd rs1 imm) s = loads s rd.bits (extended 128) (loaded s 1 (plus (register s.regs rs1.bits) (extended 2048 imm.bits)))
-effect (Lh rd rs1 imm) s = loads s rd.bits (extended 32768) (loaded s 2 (plus (register s.regs rs1.bits) (extended 2048 imm.bits)))
+effect (Lh rd rs1 imm) s = loads s rd.bits (extended 32768)
+    (loaded s 2 (plus (register s.regs rs1.bits) (extended 2048 imm.bits)))
 effect (Lw rd rs1 imm) s = loads s rd.bits (λ n. n) (loaded s 4 (plus (register s.regs rs1.bits) (extended 2048 imm.bits)))
 effect (Lbu rd rs1 imm) s = loads s rd.bits (λ n. n) (loaded s 1 (plus (register s.regs rs1.bits) (extended 2048 imm.bits)))
 effect (Lhu rd rs1 imm) s = loads s rd.bits (λ n. n) (loaded s 2 (plus (register s.regs rs1.bits) (extended 2048 imm.bits)))

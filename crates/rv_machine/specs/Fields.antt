@@ -48,4 +48,5 @@ immediate_u w = w / 4096 * 4096
 
 -- imm[20] in bit 31, imm[10:1] in bits 30 to 21, imm[11] in bit 20, imm[19:12] in bits 19 to 12
 abbrev pub immediate_j : ℕ → ℕ
-immediate_j w = extended 1048576 (w / 2147483648 * 1048576 + w / 4096 % 256 * 4096 + w / 1048576 % 2 * 2048 + w / 2097152 % 1024 * 2)
+immediate_j w = extended 1048576
+    (w / 2147483648 * 1048576 + w / 4096 % 256 * 4096 + w / 1048576 % 2 * 2048 + w / 2097152 % 1024 * 2)

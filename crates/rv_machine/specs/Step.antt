@@ -1,10 +1,16 @@
 -- One step of the machine, row by row of the table of RV32I and the M extension
 -- (RISC-V Unprivileged ISA 20191213, chapters 2, 7 and 24), over the number of the word at the program counter.
-use Rattle.std.specs.Prelude.{ℕ, zero, suc, ◌*◌, ◌/◌, ◌%◌, Bool, not, List, [], ◌∷◌, Option, Some, None, Result, Ok, Err, is_some, ◌==◌, nat_lt, if◌then◌else◌, slice_get, bit_and, bit_or, bit_xor}
+use Rattle.std.specs.Prelude.{ℕ, zero, suc, ◌*◌, ◌/◌, ◌%◌, Bool, not, List, [], ◌∷◌, Option, Some, None, Result, Ok, Err, is_some}
+use Rattle.std.specs.Prelude.{◌==◌, nat_lt, if◌then◌else◌, slice_get, bit_and, bit_or, bit_xor}
 use Rattle.rv_machine.specs.declared.cause.Cause.{Cause}
-use Rattle.rv_machine.specs.declared.cause.Cause.TheVariants.{FetchMisaligned, FetchOutside, Illegal, Ecall, Ebreak, JumpMisaligned, LoadMisaligned, LoadOutside, StoreMisaligned, StoreOutside}
-use Rattle.rv_machine.specs.Word.{plus, minus, shifted_left, shifted_right, shifted_signed, less, is_less_signed, less_signed, product, high_signed, high_mixed, high_unsigned, quotient_signed, quotient, remainder_signed, remainder}
-use Rattle.rv_machine.specs.Fields.{opcode, rd, funct3, rs1, rs2, funct7, extended, immediate_i, immediate_s, immediate_b, immediate_u, immediate_j}
+use Rattle.rv_machine.specs.declared.cause.Cause.TheVariants.{FetchMisaligned, FetchOutside, Illegal, Ecall, Ebreak}
+use Rattle.rv_machine.specs.declared.cause.Cause.TheVariants.{JumpMisaligned, LoadMisaligned, LoadOutside, StoreMisaligned}
+use Rattle.rv_machine.specs.declared.cause.Cause.TheVariants.{StoreOutside}
+use Rattle.rv_machine.specs.Word.{plus, minus, shifted_left, shifted_right, shifted_signed, less, is_less_signed, less_signed}
+use Rattle.rv_machine.specs.Word.{product, high_signed, high_mixed, high_unsigned, quotient_signed, quotient, remainder_signed}
+use Rattle.rv_machine.specs.Word.{remainder}
+use Rattle.rv_machine.specs.Fields.{opcode, rd, funct3, rs1, rs2, funct7, extended, immediate_i, immediate_s, immediate_b}
+use Rattle.rv_machine.specs.Fields.{immediate_u, immediate_j}
 use Rattle.rv_machine.specs.State.{State, register, with_register, number_at, with_number}
 
 abbrev pub Answer : Type 0
@@ -100,7 +106,8 @@ load s w =
 unfoldable pub stores : State → ℕ → ℕ → ℕ → Answer
 stores s size address value =
     if address % size == 0
-    then (if is_some (number_at s.mem size address) then Ok (record { regs = s.regs; pc = plus s.pc 4; mem = with_number s.mem size address value }) else Err StoreOutside)
+    then (if is_some (number_at s.mem size address)
+    then Ok (record { regs = s.regs; pc = plus s.pc 4; mem = with_number s.mem size address value }) else Err StoreOutside)
     else Err StoreMisaligned
 
 -- SB, SH, SW by funct3
@@ -136,7 +143,8 @@ abbrev pub operation_immediate : State → ℕ → Option ℕ
 operation_immediate s w =
     if funct3 w == 1 then (if funct7 w == 0 then Some (shifted_left (source1 s w) (rs2 w)) else None)
     else if funct3 w == 5
-    then (if funct7 w == 0 then Some (shifted_right (source1 s w) (rs2 w)) else if funct7 w == 32 then Some (shifted_signed (source1 s w) (rs2 w)) else None)
+    then (if funct7 w == 0 then Some (shifted_right (source1 s w) (rs2 w)) else if funct7 w == 32
+    then Some (shifted_signed (source1 s w) (rs2 w)) else None)
     else applied (slice_get basic (funct3 w)) (source1 s w) (immediate_i w)
 
 -- FENCE does nothing

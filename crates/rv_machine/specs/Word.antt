@@ -1,6 +1,7 @@
 -- What the register instructions compute: arithmetic on words of 32 bits, which are the numbers below 2^32
 -- (RISC-V Unprivileged ISA 20191213, section 2.4, and chapter 7 for the M extension).
-use Rattle.std.specs.Prelude.{ℕ, ◌+◌, ◌-◌, ◌*◌, ◌/◌, ◌%◌, ◌^◌, Bool, ℤ, pos, negsuc, ◌*ℤ◌, int_lt, int_div, int_rem, nat_lt, ◌==◌, if◌then◌else◌}
+use Rattle.std.specs.Prelude.{ℕ, ◌+◌, ◌-◌, ◌*◌, ◌/◌, ◌%◌, ◌^◌, Bool, ℤ, pos, negsuc, ◌*ℤ◌, int_lt, int_div, int_rem, nat_lt, ◌==◌}
+use Rattle.std.specs.Prelude.{if◌then◌else◌}
 
 -- a word read in two's complement
 abbrev pub signed : ℕ → ℤ

@@ -1,7 +1,9 @@
 // What the register instructions compute, on words (RISC-V Unprivileged ISA 20191213, section 2.4 and chapter 7).
 
 ghost use Rattle.std.specs.Prelude.{◌≡◌, ℕ, ◌+◌, ◌<◌};
-ghost use Rattle.rv_machine.specs.Word.{shifted_left, shifted_right, shifted_signed, is_less_signed, one_if, product, high_signed, high_mixed, high_unsigned, quotient_signed, quotient, remainder_signed, remainder};
+ghost use Rattle.rv_machine.specs.Word.{shifted_left, shifted_right, shifted_signed, is_less_signed, one_if, product};
+ghost use Rattle.rv_machine.specs.Word.{high_signed, high_mixed, high_unsigned, quotient_signed, quotient, remainder_signed};
+ghost use Rattle.rv_machine.specs.Word.{remainder};
 
 pub fn one_if(holds: bool) -> u32
     ensures { result ≡ one_if holds }

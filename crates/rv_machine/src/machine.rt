@@ -258,7 +258,8 @@ impl Machine {
     // Branches by an offset, if the branch is taken.
     #[tactic(auto, unfolding(crate::specs::Step::branches))]
     fn branch(&mut self, imm: Imm13, taken: bool) -> Result<(), Cause>
-        ensures made { answer result self.new ≡ table.branches (state_of self.old) (plus self.old.pc (extended 4096 (2 * imm.half))) taken }
+        ensures made { answer result self.new
+            ≡ table.branches (state_of self.old) (plus self.old.pc (extended 4096 (2 * imm.half))) taken }
         ensures stays { OnErr result (self.new ≡ self.old) }
     {
         if !taken {

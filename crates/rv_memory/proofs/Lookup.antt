@@ -1,6 +1,7 @@
 -- The map of a list of parts, each with its first address and its bytes, answers as the first part that holds the
 -- address.
-use Rattle.std.proofs.Common.{◌≡◌, ℕ, zero, suc, ◌+◌, ◌-◌, ◌<◌, Bool, true, false, cond, ◌&&◌, nat_le, nat_lt, nat_eq, List, [], ◌∷◌, ◌++◌, length, Option, Some, None, get_or, set, refl, sym, ap, ◌∙◌, arith}
+use Rattle.std.proofs.Common.{◌≡◌, ℕ, zero, suc, ◌+◌, ◌-◌, ◌<◌, Bool, true, false, cond, ◌&&◌, nat_le, nat_lt, nat_eq, List, []}
+use Rattle.std.proofs.Common.{◌∷◌, ◌++◌, length, Option, Some, None, get_or, set, refl, sym, ap, ◌∙◌, arith}
 use Rattle.std.proofs.lemmas.Grind.{common_steps}
 use Rattle.std.proofs.lemmas.List.Elements.{All-get_or, All-set, All-weaker}
 use Rattle.std.proofs.lemmas.Option.{slice_get-get_or}
@@ -57,7 +58,8 @@ find-joined a (e ∷ es) fs =
     ap (λ rest. cond (eq_by_cmp nat_cmp a e.0) (Some e.1) rest) (find-joined a es fs)
     ∙ sym (either_cond (eq_by_cmp nat_cmp a e.0) e.1 (find nat_cmp a es) (find nat_cmp a fs))
 
-in_run_or : (a : ℕ) (at : ℕ) (bs : List ℕ) (y : Option ℕ) → either (in_run a at bs) y ≡ cond (nat_le at a && nat_lt a (at + length bs)) (slice_get bs (a - at)) y
+in_run_or : (a : ℕ) (at : ℕ) (bs : List ℕ) (y : Option ℕ)
+    → either (in_run a at bs) y ≡ cond (nat_le at a && nat_lt a (at + length bs)) (slice_get bs (a - at)) y
 in_run_or a at bs y = grind (arith, common_steps, slice_get-get_or bs (a - at) 0)
 
 find-entries : (a : ℕ) (ps : List Part) → find nat_cmp a (entries ps) ≡ byte_at a ps
@@ -72,7 +74,9 @@ pub byte_is : (a : ℕ) (ps : List Part) → get (bytes_of ps) a ≡ byte_at a p
 unfolding bytes_of
 byte_is a ps = get-from_entries nat_cmp_total (entries ps) a ∙ find-entries a ps
 
-byte_first : (a : ℕ) (ps : List Part) (i : ℕ) → i < length ps → in_part a (get_or ps i no_part) ≡ true → ((k : ℕ) → k < i → in_part a (get_or ps k no_part) ≡ false) → byte_at a ps ≡ slice_get (get_or ps i no_part).1 (a - (get_or ps i no_part).0)
+byte_first : (a : ℕ) (ps : List Part) (i : ℕ) → i < length ps → in_part a (get_or ps i no_part) ≡ true
+    → ((k : ℕ) → k < i → in_part a (get_or ps k no_part) ≡ false)
+    → byte_at a ps ≡ slice_get (get_or ps i no_part).1 (a - (get_or ps i no_part).0)
 byte_first a [] i l here before = absurd (omega arith)
 byte_first a (p ∷ ps) zero l here before = ap (λ t. cond t (slice_get p.1 (a - p.0)) (byte_at a ps)) here
 byte_first a (p ∷ ps) (suc i) l here before =
@@ -83,17 +87,24 @@ byte_first a (p ∷ ps) (suc i) l here before =
 abbrev pub put_byte : Part → ℕ → ℕ → Part
 put_byte p a b = (p.0, set p.1 (a - p.0) b)
 
-put_here : (a b q : ℕ) (p : Part) (rest : Option ℕ) → in_part a p ≡ true → cond (in_part q (put_byte p a b)) (slice_get (put_byte p a b).1 (q - p.0)) rest ≡ cond (nat_eq q a) (Some b) (cond (in_part q p) (slice_get p.1 (q - p.0)) rest)
-put_here a b q p rest here = grind (arith, common_steps, slice_get-get_or (set p.1 (a - p.0) b) (q - p.0) 0, slice_get-get_or p.1 (q - p.0) 0)
+put_here : (a b q : ℕ) (p : Part) (rest : Option ℕ) → in_part a p ≡ true
+    → cond (in_part q (put_byte p a b)) (slice_get (put_byte p a b).1 (q - p.0)) rest
+    ≡ cond (nat_eq q a) (Some b) (cond (in_part q p) (slice_get p.1 (q - p.0)) rest)
+put_here a b q p rest here = grind
+    (arith, common_steps, slice_get-get_or (set p.1 (a - p.0) b) (q - p.0) 0, slice_get-get_or p.1 (q - p.0) 0)
 
-put_later : (a b q : ℕ) (p : Part) (x y : Option ℕ) → in_part a p ≡ false → cond (in_part q p) x (cond (nat_eq q a) (Some b) y) ≡ cond (nat_eq q a) (Some b) (cond (in_part q p) x y)
+put_later : (a b q : ℕ) (p : Part) (x y : Option ℕ) → in_part a p ≡ false → cond (in_part q p) x (cond (nat_eq q a) (Some b) y)
+    ≡ cond (nat_eq q a) (Some b) (cond (in_part q p) x y)
 put_later a b q p x y elsewhere = grind (arith, common_steps)
 
-byte_put : (a b q : ℕ) (ps : List Part) (i : ℕ) → i < length ps → in_part a (get_or ps i no_part) ≡ true → ((k : ℕ) → k < i → in_part a (get_or ps k no_part) ≡ false) → byte_at q (set ps i (put_byte (get_or ps i no_part) a b)) ≡ cond (nat_eq q a) (Some b) (byte_at q ps)
+byte_put : (a b q : ℕ) (ps : List Part) (i : ℕ) → i < length ps → in_part a (get_or ps i no_part) ≡ true
+    → ((k : ℕ) → k < i → in_part a (get_or ps k no_part) ≡ false) → byte_at q (set ps i (put_byte (get_or ps i no_part) a b))
+    ≡ cond (nat_eq q a) (Some b) (byte_at q ps)
 byte_put a b q [] i l here before = absurd (omega arith)
 byte_put a b q (p ∷ ps) zero l here before = put_here a b q p (byte_at q ps) here
 byte_put a b q (p ∷ ps) (suc i) l here before =
-    ap (λ rest. cond (in_part q p) (slice_get p.1 (q - p.0)) rest) (byte_put a b q ps i (omega arith) here (λ k less. before (suc k) (omega arith)))
+    ap (λ rest. cond (in_part q p) (slice_get p.1 (q - p.0)) rest)
+    (byte_put a b q ps i (omega arith) here (λ k less. before (suc k) (omega arith)))
     ∙ put_later a b q p (slice_get p.1 (q - p.0)) (byte_at q ps) (before 0 (omega arith))
 
 -- the address is in the part at an index, and in none before it
@@ -102,10 +113,12 @@ pub record FoundAt (a : ℕ) (ps : List Part) (i : ℕ) : Type 0 where
   pub here : in_part a (get_or ps i no_part) ≡ true
   pub before : (k : ℕ) → k < i → in_part a (get_or ps k no_part) ≡ false
 
-pub read_found : (a : ℕ) (ps : List Part) (i : ℕ) → FoundAt a ps i → get (bytes_of ps) a ≡ slice_get (get_or ps i no_part).1 (a - (get_or ps i no_part).0)
+pub read_found : (a : ℕ) (ps : List Part) (i : ℕ) → FoundAt a ps i
+    → get (bytes_of ps) a ≡ slice_get (get_or ps i no_part).1 (a - (get_or ps i no_part).0)
 read_found a ps i found = byte_is a ps ∙ byte_first a ps i found.inside found.here found.before
 
-pub write_found : (a b : ℕ) (ps : List Part) (i : ℕ) → FoundAt a ps i → bytes_of (set ps i (put_byte (get_or ps i no_part) a b)) ≡ insert (bytes_of ps) a b
+pub write_found : (a b : ℕ) (ps : List Part) (i : ℕ) → FoundAt a ps i → bytes_of (set ps i (put_byte (get_or ps i no_part) a b))
+    ≡ insert (bytes_of ps) a b
 write_found a b ps i found =
     same_map nat_cmp_total nat_cmp-IsAntisymmetric _ _ (λ q.
     byte_is q (set ps i (put_byte (get_or ps i no_part) a b))
@@ -115,13 +128,20 @@ write_found a b ps i found =
     ∙ sym (get-insert nat_cmp_total (bytes_of ps) a b q))
 
 -- parts stay apart where one gets other bytes, as many as before
-pub disjoint_set : (ps : List Part) (i : ℕ) (p : Part) → i < length ps → p.0 ≡ (get_or ps i no_part).0 → length p.1 ≡ length (get_or ps i no_part).1 → AreDisjoint ps → AreDisjoint (set ps i p)
+pub disjoint_set : (ps : List Part) (i : ℕ) (p : Part) → i < length ps → p.0 ≡ (get_or ps i no_part).0
+    → length p.1 ≡ length (get_or ps i no_part).1 → AreDisjoint ps → AreDisjoint (set ps i p)
 disjoint_set [] i p inside start size apart = absurd (omega arith)
-disjoint_set (r ∷ ps) zero p inside start size apart =
-    (All-weaker (IsApart r) (IsApart p) (λ s other a low high low_s high_s. other a (omega arith) (omega arith) low_s high_s) ps apart.0, apart.1)
+disjoint_set (r ∷ ps) zero p inside start size apart = (
+  All-weaker (IsApart r) (IsApart p) (λ s other a low high low_s high_s. other a (omega arith) (omega arith) low_s high_s) ps
+      apart.0,
+  apart.1,
+)
 disjoint_set (r ∷ ps) (suc i) p inside start size apart =
-    let there : IsApart r (get_or ps i no_part) = All-get_or (IsApart r) ps i no_part (omega arith) apart.0 in
-    (All-set (IsApart r) ps i p (λ a low high low_p high_p. there a low high (omega arith) (omega arith)) apart.0, disjoint_set ps i p (omega arith) start size apart.1)
+    let there : IsApart r (get_or ps i no_part) = All-get_or (IsApart r) ps i no_part (omega arith) apart.0 in (
+      All-set (IsApart r) ps i p (λ a low high low_p high_p. there a low high (omega arith) (omega arith)) apart.0,
+      disjoint_set ps
+          i p (omega arith) start size apart.1,
+    )
 
 -- no part before an index has an address of the part there
 abbrev pub Alone : List Part → ℕ → Part → Type 0

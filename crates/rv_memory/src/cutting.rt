@@ -17,7 +17,8 @@ pub fn cut(
     bytes: &[u8],
 ) -> Result<(), NoMemory>
     requires { start + length bytes.now ≤ 2 ^ 32 }
-    ensures { OnOk result ((rest : List (ℕ × List ℕ)) → IsRecut (parts pages.old.items ++ (start, bytes.now) ∷ rest) (parts pages.new.items ++ rest)) }
+    ensures { OnOk result ((rest : List (ℕ × List ℕ))
+        → IsRecut (parts pages.old.items ++ (start, bytes.now) ∷ rest) (parts pages.new.items ++ rest)) }
 {
     let mut at = start;
     let mut left = bytes;

@@ -1,5 +1,6 @@
 -- Certificates: when one closes a goal, which is then at least 0 wherever the facts are and no symbol passes its top.
-use Rattle.std.specs.Prelude.{◌≡◌, ℕ, ◌-◌, ◌^◌, ◌≤◌, Bool, true, ◌&&◌, List, [], ◌∷◌, length, slice_get, Option, Some, None, option_map, is_some, ℤ, pos, neg_ℤ, ◌+ℤ◌, ◌*ℤ◌, ◌≤ℤ◌, nat_eq, nat_le, if◌then◌else◌}
+use Rattle.std.specs.Prelude.{◌≡◌, ℕ, ◌-◌, ◌^◌, ◌≤◌, Bool, true, ◌&&◌, List, [], ◌∷◌, length, slice_get, Option, Some, None}
+use Rattle.std.specs.Prelude.{option_map, is_some, ℤ, pos, neg_ℤ, ◌+ℤ◌, ◌*ℤ◌, ◌≤ℤ◌, nat_eq, nat_le, if◌then◌else◌}
 use Rattle.std.specs.Int.Signed.{le_z}
 use Rattle.std.specs.Ordering.{int_eq}
 use Rattle.side_certs.specs.declared.certificate.Cert.{Cert}
@@ -105,7 +106,8 @@ Holds numbers facts tops =
 
 -- a goal that a certificate closes is at least 0 wherever facts and tops hold
 abbrev pub ClosingGivesGoal : Type 0
-ClosingGivesGoal = (facts : List LinearForm) → (tops : List ℕ) → (goal : LinearForm) → (cert : Cert) → closes facts tops goal cert ≡ true
+ClosingGivesGoal = (facts : List LinearForm) → (tops : List ℕ) → (goal : LinearForm) → (cert : Cert)
+    → closes facts tops goal cert ≡ true
     → (numbers : ℕ → ℕ) → Holds numbers facts tops → pos 0 ≤ℤ value_at numbers goal
 
 -- a number from -n to n

@@ -1,6 +1,7 @@
 //! Whether a certificate closes a goal. For each symbol of the goal and of the forms that the entries name, its
 //! coefficients are summed, which takes no memory; all sums have room in 128 bits.
-ghost use Rattle.std.specs.Prelude.{◌≡◌, ◌≤◌, ◌*◌, ◌*ℤ◌, ◌^◌, ◌↔◌, true, length, option_map, is_some, slice_get, Some, IfSome, pos, ℤ};
+ghost use Rattle.std.specs.Prelude.{◌≡◌, ◌≤◌, ◌*◌, ◌*ℤ◌, ◌^◌, ◌↔◌, true, length, option_map, is_some, slice_get, Some, IfSome};
+ghost use Rattle.std.specs.Prelude.{pos, ℤ};
 ghost use Rattle.side_certs.specs.LinearForm as linear;
 ghost use Rattle.side_certs.specs.Closes as certificate;
 
@@ -164,7 +165,8 @@ fn cancels(facts: &[Form], tops: &[u32], goal: &Form, cert: &Cert, terms: &[(u32
 /// Of each symbol of the forms that the entries name nothing is left.
 fn cancels_all(facts: &[Form], tops: &[u32], goal: &Form, cert: &Cert) -> bool
     requires { certificate.in_range cert.now ≡ true }
-    ensures { result ≡ certificate.cancels_all (certificate.rest_of facts.now tops.now goal.now cert.now) facts.now tops.now cert.now.entries }
+    ensures { result ≡ certificate.cancels_all (certificate.rest_of facts.now tops.now goal.now cert.now) facts.now tops.now
+        cert.now.entries }
 {
     let mut after = cert.entries.as_slice();
     'entries: while let [entry, rest @ ..] = after {
@@ -179,7 +181,8 @@ fn cancels_all(facts: &[Form], tops: &[u32], goal: &Form, cert: &Cert) -> bool
 /// Of each symbol of the form that the entry names, if it names one, nothing is left.
 fn cancels_in(facts: &[Form], tops: &[u32], goal: &Form, cert: &Cert, entry: Entry) -> bool
     requires { certificate.in_range cert.now ≡ true }
-    ensures { result ≡ certificate.cancels_in (certificate.rest_of facts.now tops.now goal.now cert.now) (certificate.named facts.now tops.now entry) }
+    ensures { result ≡ certificate.cancels_in (certificate.rest_of facts.now tops.now goal.now cert.now)
+        (certificate.named facts.now tops.now entry) }
 {
     if !is_named(facts, tops, entry) {
         return true;
@@ -221,7 +224,8 @@ fn summed(facts: &[Form], tops: &[u32], entries: &[Entry], place: Option<u32>) -
 
 /// The number of the entry's form, times its multiplier.
 fn multiple(facts: &[Form], tops: &[u32], entry: Entry, place: Option<u32>) -> i128
-    ensures multiple { result ≡ certificate.multiple (certificate.number_at place) entry.mult (certificate.named facts.now tops.now entry) }
+    ensures multiple { result ≡ certificate.multiple (certificate.number_at place) entry.mult
+        (certificate.named facts.now tops.now entry) }
     ensures near { certificate.Near (2 ^ 95) result }
 {
     if entry.mult > GREATEST_MULTIPLIER {

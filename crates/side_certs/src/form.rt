@@ -1,5 +1,6 @@
 //! A linear form: a constant, and at most 16 symbols with a coefficient each.
-ghost use Rattle.std.specs.Prelude.{◌≡◌, [], ◌∷◌, ◌++◌, ◌+◌, ◌<◌, ◌≤◌, ◌+ℤ◌, ◌*ℤ◌, ◌^◌, ◌↔◌, List, ℕ, ℤ, pos, length, true, false, slice_get, Some, IsTrue, MatchOption, if◌then◌else◌, ◌&&◌, nat_lt};
+ghost use Rattle.std.specs.Prelude.{◌≡◌, [], ◌∷◌, ◌++◌, ◌+◌, ◌<◌, ◌≤◌, ◌+ℤ◌, ◌*ℤ◌, ◌^◌, ◌↔◌, List, ℕ, ℤ, pos, length, true};
+ghost use Rattle.std.specs.Prelude.{false, slice_get, Some, IsTrue, MatchOption, if◌then◌else◌, ◌&&◌, nat_lt};
 ghost use Rattle.std.specs.Ordering.{int_eq};
 ghost use Rattle.side_certs.specs.LinearForm as linear;
 ghost use Rattle.side_certs.specs.Closes.{Near, number_at};
@@ -30,7 +31,8 @@ impl Model for Form {
 
     ghost view = { λ f. record { constant = f.constant; terms = take f.count f.slots } };
 
-    ghost invariant = { λ f. (f.count ≤ 16) × (is_within (record { constant = f.constant; terms = take f.count f.slots }) ≡ true) × (rises_from 0 (take f.count f.slots) ≡ true) };
+    ghost invariant = { λ f. (f.count ≤ 16) × (is_within (record { constant = f.constant; terms = take f.count f.slots }) ≡ true)
+        × (rises_from 0 (take f.count f.slots) ≡ true) };
 }
 
 impl Form {

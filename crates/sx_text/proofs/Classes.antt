@@ -1,5 +1,6 @@
 -- What each class of byte does to the rest of a text and to its first fault.
-use Rattle.std.proofs.Common.{◌≡◌, refl, ◌∙◌, ap, ℕ, suc, ◌+◌, ◌<◌, ◌≤◌, nat_eq, true, false, length, List, [], ◌∷◌, drop, drop-cons, drop-drop, take, get_or, add-one, arith, Some, None, length-drop}
+use Rattle.std.proofs.Common.{◌≡◌, refl, ◌∙◌, ap, ℕ, suc, ◌+◌, ◌<◌, ◌≤◌, nat_eq, true, false, length, List, [], ◌∷◌, drop}
+use Rattle.std.proofs.Common.{drop-cons, drop-drop, take, get_or, add-one, arith, Some, None, length-drop}
 use Rattle.std.proofs.Math.ListN.{drop_of_length-le}
 use Rattle.rup_base.specs.declared.refusal.TextWhy.TheVariants as why
 use Rattle.sx_text.specs.declared.byte_class.Class.TheVariants.{Space, Note, Open, Close, Word, Bad}
@@ -38,7 +39,8 @@ module _ (bytes : List ℕ) (at : ℕ) (h : at < length bytes) where
   unfolding rest_of
   rest_of-Note n m e = rw (front bytes at h) (rw (e, rest_of) (rw (← m) (rest_of-jumped n (at + 1) bytes)))
 
-  pub fault-Note : (n level : ℕ) → n ≡ line_length (drop (at + 1) bytes) → at + 1 + n ≤ length bytes → class (get_or bytes at 0) ≡ Note
+  pub fault-Note : (n level : ℕ) → n ≡ line_length (drop (at + 1) bytes) → at + 1 + n ≤ length bytes
+      → class (get_or bytes at 0) ≡ Note
       → fault 0 level at (drop at bytes) ≡ fault 0 level (at + 1 + n) (drop (at + 1 + n) bytes)
   unfolding fault
   fault-Note n level m w e = rw (front bytes at h) (rw (e, fault) (rw (← m) (fault-jumped n level (at + 1) bytes w)))
@@ -78,7 +80,8 @@ module _ (bytes : List ℕ) (at : ℕ) (h : at < length bytes) where
   rest_of-Word n m e =
       rw (front bytes at h) (rw (e, rest_of) (rw (← m, taken n _ _, rest_of-jumped n (at + 1) bytes) refl))
 
-  pub fault-Word : (n level : ℕ) → n ≡ word_length (drop (at + 1) bytes) → at + 1 + n ≤ length bytes → class (get_or bytes at 0) ≡ Word
+  pub fault-Word : (n level : ℕ) → n ≡ word_length (drop (at + 1) bytes) → at + 1 + n ≤ length bytes
+      → class (get_or bytes at 0) ≡ Word
       → fault 0 level at (drop at bytes) ≡ fault 0 level (at + 1 + n) (drop (at + 1 + n) bytes)
   unfolding fault
   fault-Word n level m w e = rw (front bytes at h) (rw (e, fault) (rw (← m) (fault-jumped n level (at + 1) bytes w)))
@@ -88,7 +91,8 @@ module _ (bytes : List ℕ) (at : ℕ) (h : at < length bytes) where
   fault-Bad level e = rw (front bytes at h) (rw (e, fault) refl)
 
 -- at the end of the text
-pub fault-Unclosed : (bytes : List ℕ) (level at : ℕ) → length bytes ≤ at → fault 0 (suc level) at (drop at bytes) ≡ Some (at, why.Unclosed)
+pub fault-Unclosed : (bytes : List ℕ) (level at : ℕ) → length bytes ≤ at → fault 0 (suc level) at (drop at bytes)
+    ≡ Some (at, why.Unclosed)
 unfolding fault
 fault-Unclosed bytes level at h = rw (drop_of_length-le bytes h) refl
 

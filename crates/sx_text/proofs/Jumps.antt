@@ -8,7 +8,8 @@ rest_of-skipped zero at bytes = let e : at + 0 ≡ at = omega arith in rw e refl
 rest_of-skipped (suc n) at [] = refl
 rest_of-skipped (suc n) at (b ∷ bs) = let e : at + suc n ≡ (at + 1) + n = omega arith in rw e (rest_of-skipped n (at + 1) bs)
 
-pub fault-skipped : (n level at : ℕ) (bytes : List ℕ) → n ≤ length bytes → fault n level at bytes ≡ fault 0 level (at + n) (drop n bytes)
+pub fault-skipped : (n level at : ℕ) (bytes : List ℕ) → n ≤ length bytes
+    → fault n level at bytes ≡ fault 0 level (at + n) (drop n bytes)
 unfolding fault
 fault-skipped zero level at bytes h = let e : at + 0 ≡ at = omega arith in rw e refl
 fault-skipped (suc n) level at [] h = absurd (omega arith)

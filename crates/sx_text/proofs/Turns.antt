@@ -1,5 +1,6 @@
 -- One turn of the reader at each class of byte: what is read and what is left mean the whole text, as before.
-use Rattle.std.proofs.Common.{◌≡◌, refl, sym, ◌∙◌, ap, subst, ℕ, ◌+◌, ◌<◌, ◌≤◌, length, List, [], ◌∷◌, ◌++◌, append-nil, drop, take, reverse, get_or, arith, Some, None, Result, Ok, Err, length-drop, length-take}
+use Rattle.std.proofs.Common.{◌≡◌, refl, sym, ◌∙◌, ap, subst, ℕ, ◌+◌, ◌<◌, ◌≤◌, length, List, [], ◌∷◌, ◌++◌, append-nil, drop}
+use Rattle.std.proofs.Common.{take, reverse, get_or, arith, Some, None, Result, Ok, Err, length-drop, length-take}
 use Rattle.std.proofs.lemmas.List.{reverse-append}
 use Rattle.rup_base.specs.Answers.{Answers}
 use Rattle.rup_base.specs.declared.fail.Fail.{Fail}
@@ -20,7 +21,8 @@ pub answers_refused : {T : Type 0} (fail : Fail) (refusal : Refusal) (answer : R
     → fail ≡ Refused refusal → answer ≡ Err refusal → Answers (Err fail) answer
 answers_refused fail refusal answer e h = subst (λ (f : Fail). Answers (Err f) answer) (sym e) h
 
-pub read-fault : (word at : ℕ) (why : TextWhy) (bytes : List ℕ) → fault 0 0 0 bytes ≡ Some (at, why) → read word bytes ≡ Err (NotText word at why)
+pub read-fault : (word at : ℕ) (why : TextWhy) (bytes : List ℕ) → fault 0 0 0 bytes ≡ Some (at, why)
+    → read word bytes ≡ Err (NotText word at why)
 read-fault word at why bytes e = rw e refl
 
 -- the whole answer where a byte, or the end, is at fault
@@ -37,7 +39,8 @@ pub finishes : (word at : ℕ) (bytes : List ℕ) (frames : List Frame) (forms :
     → read word bytes ≡ Ok forms
 finishes word at bytes frames forms h e faults means =
     let none : fault 0 0 0 bytes ≡ None =
-    sym (subst (λ (fs : List Frame). fault 0 (length fs) at (drop at bytes) ≡ fault 0 0 0 bytes) e faults) ∙ fault-None bytes at h in
+    sym (subst (λ (fs : List Frame). fault 0 (length fs) at (drop at bytes) ≡ fault 0 0 0 bytes) e faults) ∙ fault-None bytes at h
+    in
     let all : rest_of 0 0 bytes ≡ (forms ++ [], []) =
     sym (subst (λ (fs : List Frame). plugged (reverse fs) forms (rest_of 0 at (drop at bytes)) ≡ rest_of 0 0 bytes) e means)
     ∙ ap (plugged [] forms) (rest_of-end bytes at h) in
@@ -62,7 +65,8 @@ module _ (bytes : List ℕ) (at : ℕ) (h : at < length bytes) where
       let turned : reverse old ≡ f ∷ reverse new = ap reverse n ∙ reverse-append new (f ∷ []) in
       rw m
       (plugged-more (reverse new) f.before (Kids (place f.start (at + 1)) forms) rest
-      ∙ ap (λ (ks : List Sx). plugged (reverse new) f.before (Kids (place f.start (at + 1)) ks ∷ rest.0, rest.1)) (sym (append-nil forms))
+      ∙ ap (λ (ks : List Sx). plugged (reverse new) f.before (Kids (place f.start (at + 1)) ks ∷ rest.0, rest.1))
+      (sym (append-nil forms))
       ∙ ap (plugged (f ∷ reverse new) forms) (sym (rest_of-Close bytes at h e))
       ∙ subst (λ (fs : List Frame). plugged fs forms (rest_of 0 at (drop at bytes)) ≡ rest_of 0 0 bytes) turned means)
 
@@ -73,7 +77,8 @@ module _ (bytes : List ℕ) (at : ℕ) (h : at < length bytes) where
       → plugged frames more (rest_of 0 (at + 1 + n) (drop (at + 1 + n) bytes)) ≡ rest_of 0 0 bytes
   words n frames forms more text e w within t m means =
       let rest : Rest = rest_of 0 (at + 1 + n) (drop (at + 1 + n) bytes) in
-      let long : length (take (n + 1) (drop at bytes)) ≡ n + 1 = length-take (n + 1) (drop at bytes) ∙ (omega (arith, length-drop at bytes)) in
+      let long : length (take (n + 1) (drop at bytes))
+      ≡ n + 1 = length-take (n + 1) (drop at bytes) ∙ (omega (arith, length-drop at bytes)) in
       let ends : at + 1 + n ≡ at + length (take (n + 1) (drop at bytes)) = omega (arith, long) in
       rw m
       (plugged-more frames forms (Atom (place at (at + 1 + n)) text) rest

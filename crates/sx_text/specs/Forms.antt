@@ -1,5 +1,6 @@
 -- The forms of a text, with their places, and what is wrong with bytes that are no text.
-use Rattle.std.specs.Prelude.{ℕ, zero, suc, ◌+◌, nat_eq, List, [], ◌∷◌, length, take, Option, Some, None, Result, Ok, Err, if◌then◌else◌}
+use Rattle.std.specs.Prelude.{ℕ, zero, suc, ◌+◌, nat_eq, List, [], ◌∷◌, length, take, Option, Some, None, Result, Ok, Err}
+use Rattle.std.specs.Prelude.{if◌then◌else◌}
 use Rattle.rup_base.specs.declared.arg.Place.{Place}
 use Rattle.rup_base.specs.declared.refusal.TextWhy.{TextWhy}
 use Rattle.rup_base.specs.declared.refusal.TextWhy.TheVariants as why

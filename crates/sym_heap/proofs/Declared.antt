@@ -1,5 +1,6 @@
 -- What a well typed model has declared: each name once, and at most eight registers.
-use Rattle.std.proofs.Common.{◌≡◌, refl, ap, subst, arith, ◌+◌, ◌≤◌, Bool, true, false, List, [], ◌∷◌, length, Option, Some, None, Result, Ok, Err, nat_le, length-append}
+use Rattle.std.proofs.Common.{◌≡◌, refl, ap, subst, arith, ◌+◌, ◌≤◌, Bool, true, false, List, [], ◌∷◌, length, Option, Some, None}
+use Rattle.std.proofs.Common.{Result, Ok, Err, nat_le, length-append}
 use Rattle.std.proofs.lemmas.Bool.{leb-true}
 use Rattle.rup_base.specs.declared.refusal.TypePlace.{TypePlace}
 use Rattle.rup_base.specs.declared.refusal.TypePlace.TheVariants.{Params}
@@ -25,7 +26,8 @@ pub record Answered {A B E : Type 0} (first : Result A E) (next : A → Result B
   pub one : first ≡ Ok value
   pub two : next value ≡ Ok b
 
-pub answered : {A B E : Type 0} (first : Result A E) (next : A → Result B E) (b : B) → (first >>= next) ≡ Ok b → Answered first next b
+pub answered : {A B E : Type 0} (first : Result A E) (next : A → Result B E) (b : B) → (first >>= next) ≡ Ok b
+    → Answered first next b
 answered (Ok a) next b is = record { value = a; one = refl; two = is }
 answered (Err e) next b is = absurd (cc)
 
@@ -37,8 +39,13 @@ at_place place (Err e) a is = absurd (cc)
 pub declared : (x : Name) (t : NameType) (c d : Scope) → types.declare x t c ≡ Ok d → (look_up c x ≡ None) × (d ≡ bind x t c)
 declared x t c d is = by (look_up c x) refl where
   by : (o : Option NameType) → look_up c x ≡ o → (look_up c x ≡ None) × (d ≡ bind x t c)
-  by None new = (new, let same : Ok (bind x t c) ≡ Ok d = subst (λ o. elim o [ None ↦ Ok (bind x t c) | Some u ↦ Err why.Repeated ] ≡ Ok d) new is in cc)
-  by (Some u) old = absurd (let bad : Err why.Repeated ≡ Ok d = subst (λ o. elim o [ None ↦ Ok (bind x t c) | Some u ↦ Err why.Repeated ] ≡ Ok d) old is in cc)
+  by None new = (
+    new,
+    let same : Ok (bind x t c)
+        ≡ Ok d = subst (λ o. elim o [ None ↦ Ok (bind x t c) | Some u ↦ Err why.Repeated ] ≡ Ok d) new is in cc,
+  )
+  by (Some u) old = absurd (let bad : Err why.Repeated
+      ≡ Ok d = subst (λ o. elim o [ None ↦ Ok (bind x t c) | Some u ↦ Err why.Repeated ] ≡ Ok d) old is in cc)
 
 one_more : (x : Name) (t : NameType) (c d : Scope) → types.declare x t c ≡ Ok d → length d ≡ length c + 1
 one_more x t c d is = let e : d ≡ bind x t c = (declared x t c d is).1 in rw e (length-append c _)
@@ -47,7 +54,8 @@ length_declared : (n : Len) (c d : Scope) → types.declare_length n c ≡ Ok d 
 length_declared (Fixed k) c d is = let e : c ≡ d = cc in omega (arith, ap length e)
 length_declared (Named x) c d is = one_more x (One Word) c d is
 
-array_declared : (a : Name) (t : NameType) (n : Len) (c d : Scope) → (types.declare a t c >>= types.declare_length n) ≡ Ok d → length d ≡ length c + (1 + length_registers n)
+array_declared : (a : Name) (t : NameType) (n : Len) (c d : Scope) → (types.declare a t c >>= types.declare_length n) ≡ Ok d
+    → length d ≡ length c + (1 + length_registers n)
 array_declared a t n c d is =
     let parts : Answered (types.declare a t c) (types.declare_length n) d = answered _ _ d is in
     omega (arith, one_more a t c parts.value parts.one, length_declared n parts.value d parts.two)
@@ -79,11 +87,13 @@ declared_parts p ps c d is =
     let same : (one.value ≡ two.value) × (length one.value ≤ 8) = counted one.value two.value two.one in
     record { between = one.value; first = one.one; few = same.1; rest = rw (same.0) two.two }
 
-pub params_declared : (ps : List Param) (c d : Scope) → types.declare_params ps c ≡ Ok d → length c ≤ 8 → (length d ≡ length c + registers ps) × (length d ≤ 8)
+pub params_declared : (ps : List Param) (c d : Scope) → types.declare_params ps c ≡ Ok d → length c ≤ 8
+    → (length d ≡ length c + registers ps) × (length d ≤ 8)
 params_declared [] c d is few = let e : c ≡ d = cc in (omega (arith, ap length e), omega (arith, ap length e, few))
 params_declared (p ∷ ps) c d is few =
     let parts : Declared p ps c d = declared_parts p ps c d is in
-    let more : (length d ≡ length parts.between + registers ps) × (length d ≤ 8) = params_declared ps parts.between d parts.rest parts.few in
+    let more : (length d ≡ length parts.between + registers ps)
+    × (length d ≤ 8) = params_declared ps parts.between d parts.rest parts.few in
     (omega (arith, param_declared p c parts.between parts.first, more.0), more.1)
 
 -- the scope at the start of a well typed model, in which its requirements hold their rules

@@ -1,5 +1,6 @@
 -- The first element that passes a test: where it stands, and the list with it changed, replaced or taken out.
-use Rattle.std.proofs.Common.{◌≡◌, refl, ap, subst, arith, ℕ, suc, ◌+◌, ◌<◌, Bool, true, false, List, [], ◌∷◌, ◌++◌, length, Option, Some, None, option_map}
+use Rattle.std.proofs.Common.{◌≡◌, refl, ap, subst, arith, ℕ, suc, ◌+◌, ◌<◌, Bool, true, false, List, [], ◌∷◌, ◌++◌, length}
+use Rattle.std.proofs.Common.{Option, Some, None, option_map}
 use Rattle.std.proofs.Math.ListN.{set, get_or}
 use Rattle.std.specs.Prelude.{remove}
 use Rattle.std.specs.List.{find, position_from}
@@ -23,15 +24,23 @@ abbrev pub FirstAt : {A : Type 0} → (A → Bool) → List A → Option ℕ →
 FirstAt test xs None = Nowhere test xs
 FirstAt test xs (Some i) = There test xs i
 
-shifted : {A : Type 0} (test : A → Bool) (n : ℕ) (xs : List A) → position_from test (n + 1) xs ≡ option_map suc (position_from test n xs)
+shifted : {A : Type 0} (test : A → Bool) (n : ℕ) (xs : List A)
+    → position_from test (n + 1) xs ≡ option_map suc (position_from test n xs)
 shifted test n [] = refl
 shifted test n (x ∷ xs) = by (test x) refl (shifted test (n + 1) xs) where
-  by : (is : Bool) → test x ≡ is → position_from test (n + 1 + 1) xs ≡ option_map suc (position_from test (n + 1) xs) → position_from test (n + 1) (x ∷ xs) ≡ option_map suc (position_from test n (x ∷ xs))
+  by : (is : Bool) → test x ≡ is → position_from test (n + 1 + 1) xs ≡ option_map suc (position_from test (n + 1) xs)
+      → position_from test (n + 1) (x ∷ xs) ≡ option_map suc (position_from test n (x ∷ xs))
   by true is more = rw is (ap Some (omega arith))
   by false is more = rw is more
 
-behind : {A : Type 0} (test : A → Bool) (x : A) (xs : List A) → test x ≡ false → (p : Option ℕ) → FirstAt test xs p → FirstAt test (x ∷ xs) (option_map suc p)
-behind test x xs fails None h = record { found = rw fails h.found; unchanged = λ change. rw fails (ap (λ l. x ∷ l) (h.unchanged change)); put = λ new. rw fails (ap (λ l. x ∷ l) (h.put new)) }
+behind : {A : Type 0} (test : A → Bool) (x : A) (xs : List A) → test x ≡ false → (p : Option ℕ) → FirstAt test xs p
+    → FirstAt test (x ∷ xs) (option_map suc p)
+behind test x xs fails None h =
+    record {
+      found = rw fails h.found;
+      unchanged = λ change. rw fails (ap (λ l. x ∷ l) (h.unchanged change));
+      put = λ new. rw fails (ap (λ l. x ∷ l) (h.put new));
+    }
 behind test x xs fails (Some i) h = record {
   inside = omega (arith, h.inside);
   found = λ d. rw fails (h.found d);
@@ -43,8 +52,15 @@ behind test x xs fails (Some i) h = record {
 pub first_at : {A : Type 0} (test : A → Bool) (xs : List A) → FirstAt test xs (position_from test 0 xs)
 first_at test [] = record { found = refl; unchanged = λ change. refl; put = λ new. refl }
 first_at {A} test (x ∷ xs) = by (test x) refl (first_at test xs) where
-  by : (is : Bool) → test x ≡ is → FirstAt test xs (position_from test 0 xs) → FirstAt test (x ∷ xs) (position_from test 0 (x ∷ xs))
-  by true is more = rw is (record { inside = omega arith; found = λ d. rw is refl; changed = λ change d. rw is refl; put = λ new. rw is refl; taken_out = rw is refl })
+  by : (is : Bool) → test x ≡ is → FirstAt test xs (position_from test 0 xs)
+      → FirstAt test (x ∷ xs) (position_from test 0 (x ∷ xs))
+  by true is more = rw is (record {
+    inside = omega arith;
+    found = λ d. rw is refl;
+    changed = λ change d. rw is refl;
+    put = λ new. rw is refl;
+    taken_out = rw is refl;
+  })
   by false is more = rw is (rw (shifted test 0 xs) (behind test x xs is (position_from test 0 xs) more))
 
 pub nowhere : {A : Type 0} (test : A → Bool) (xs : List A) → position_from test 0 xs ≡ None → Nowhere test xs

@@ -1,5 +1,7 @@
 -- The context at the start fits: the arguments have arrived, their locals are reserved, and each requirement holds.
-use Rattle.std.proofs.Common.{◌≡◌, refl, sym, ◌∙◌, ap, subst, arith, ℕ, zero, suc, ◌+◌, ◌*◌, ◌<◌, ◌≤◌, ◌||◌, inl, inr, ◌⊎◌, Bool, true, false, List, [], ◌∷◌, ◌++◌, length, map, Option, Some, None, Result, Ok, Err, ℤ, pos, negsuc, neg_ℤ, ◌+ℤ◌, ◌*ℤ◌, ◌≤ℤ◌, slice_get, nat_eq, nat_lt, if◌then◌else◌}
+use Rattle.std.proofs.Common.{◌≡◌, refl, sym, ◌∙◌, ap, subst, arith, ℕ, zero, suc, ◌+◌, ◌*◌, ◌<◌, ◌≤◌, ◌||◌, inl, inr, ◌⊎◌, Bool}
+use Rattle.std.proofs.Common.{true, false, List, [], ◌∷◌, ◌++◌, length, map, Option, Some, None, Result, Ok, Err, ℤ, pos, negsuc}
+use Rattle.std.proofs.Common.{neg_ℤ, ◌+ℤ◌, ◌*ℤ◌, ◌≤ℤ◌, slice_get, nat_eq, nat_lt, if◌then◌else◌}
 use Rattle.std.specs.List.{find}
 use Rattle.std.proofs.lemmas.Bool.{leb-true}
 use Rattle.std.proofs.lemmas.Bool.Decides.{nat_tests}
@@ -69,17 +71,25 @@ AllReserved c = (i : ℕ) (k : Clause) → slice_get c.clauses i ≡ Some k → 
 
 array_reserved : (p : ℕ) (a : Name) (size : ℕ) (n : Len) (c : Context) → AllReserved c → AllReserved (with_array p a size n c)
 array_reserved p a size (Fixed m) c all i k at = by (at_end c.clauses _ i k at) where
-  by : (slice_get c.clauses i ≡ Some k) ⊎ ((i ≡ length c.clauses) × (clause a p size (next_local c) (constant (pos m)) None ≡ k)) → Reserved (c.reserved ++ next_local c ∷ []) k
+  by : (slice_get c.clauses i ≡ Some k) ⊎ ((i ≡ length c.clauses) × (clause a p size (next_local c) (constant (pos m)) None ≡ k))
+      → Reserved (c.reserved ++ next_local c ∷ []) k
   by (inl before) = let r = all i k before in (has_more k.pointer c.reserved _ r.0, λ l is. has_more l c.reserved _ (r.1 l is))
-  by (inr last) = subst (λ (g : Clause). Reserved (c.reserved ++ next_local c ∷ []) g) last.1 (has_last (next_local c) c.reserved, λ l bad. absurd (let worse : None ≡ Some l = bad in cc))
+  by (inr last) = subst (λ (g : Clause). Reserved (c.reserved ++ next_local c ∷ []) g) last.1
+      (has_last (next_local c) c.reserved, λ l bad. absurd (let worse : None ≡ Some l = bad in cc))
 array_reserved p a size (Named x) c all i k at = by (at_end c.clauses _ i k at) where
   locals : List ℕ
   locals = (c.reserved ++ next_local c ∷ []) ++ (next_local c + 1) ∷ []
 
-  by : (slice_get c.clauses i ≡ Some k) ⊎ ((i ≡ length c.clauses) × (clause a p size (next_local c) (symbol (length c.scalars)) (Some (next_local c + 1)) ≡ k)) → Reserved locals k
-  by (inl before) = let r = all i k before in (has_more k.pointer _ _ (has_more k.pointer c.reserved _ r.0), λ l is. has_more l _ _ (has_more l c.reserved _ (r.1 l is)))
-  by (inr last) = subst (λ (g : Clause). Reserved locals g) last.1
-      (has_more (next_local c) _ _ (has_last (next_local c) c.reserved), λ l is. let same : next_local c + 1 ≡ l = cc in subst (λ (j : ℕ). has j locals ≡ true) same (has_last (next_local c + 1) (c.reserved ++ next_local c ∷ [])))
+  by : (slice_get c.clauses i ≡ Some k)
+      ⊎ ((i ≡ length c.clauses) × (clause a p size (next_local c) (symbol (length c.scalars)) (Some (next_local c + 1)) ≡ k))
+      → Reserved locals k
+  by (inl before) = let r = all i k before in
+      (has_more k.pointer _ _ (has_more k.pointer c.reserved _ r.0), λ l is. has_more l _ _ (has_more l c.reserved _ (r.1 l is)))
+  by (inr last) = subst (λ (g : Clause). Reserved locals g) last.1 (
+    has_more (next_local c) _ _ (has_last (next_local c) c.reserved),
+    λ l is. let same : next_local c + 1 ≡ l = cc in
+        subst (λ (j : ℕ). has j locals ≡ true) same (has_last (next_local c + 1) (c.reserved ++ next_local c ∷ [])),
+  )
 
 param_reserved : (p : ℕ) (q : Param) (c : Context) → AllReserved c → AllReserved (with_param p q c)
 param_reserved p (param.Word x) c all = all
@@ -102,8 +112,10 @@ pub somewhere : {A : Type 0} (test : A → Bool) (xs : List A) (x : A) → find 
 somewhere test [] x is = absurd (let bad : None ≡ Some x = is in cc)
 somewhere {A} test (y ∷ ys) x is = by (test y) refl (λ r. somewhere test ys x r) where
   by : (b : Bool) → test y ≡ b → (find test ys ≡ Some x → Somewhere test ys x) → Somewhere test (y ∷ ys) x
-  by true e more = let here : Some y ≡ Some x = rw e at is in let same : y ≡ x = cc in record { place = 0; at = here; passes = subst (λ (z : A). test z ≡ true) same e }
-  by false e more = let s : Somewhere test ys x = more (rw e at is) in record { place = suc s.place; at = s.at; passes = s.passes }
+  by true e more = let here : Some y ≡ Some x = rw e at is in let same : y ≡ x = cc in
+      record { place = 0; at = here; passes = subst (λ (z : A). test z ≡ true) same e }
+  by false e more = let s : Somewhere test ys x = more (rw e at is) in
+      record { place = suc s.place; at = s.at; passes = s.passes }
 
 below_known : (n : ℕ) (ts : List (ℕ × ℤ)) → Below n ts → (i : ℕ) (t : ℕ × ℤ) → slice_get ts i ≡ Some t → t.0 < n
 below_known n [] all i t at = absurd (let bad : None ≡ Some t = at in cc)
@@ -113,14 +125,16 @@ below_known n (u ∷ us) all (suc i) t at = below_known n us all.1 i t at
 -- Requirements.
 
 module _ (c : Scope) (hs : List Held) (knows : Knows c hs) (env : Env) (numbers : ℕ → ℕ) (n : ℕ)
-    (valued : (x : Name) → Found hs x → (value_at numbers (form_in hs x) ≡ pos (number (value_of env x))) × Below n (form_in hs x).terms) where
+    (valued : (x : Name) → Found hs x → (value_at numbers (form_in hs x) ≡ pos (number (value_of env x)))
+    × Below n (form_in hs x).terms) where
   abbrev Valued : LinearForm → (Env → ℕ) → Type 0
   Valued f whole = (value_at numbers f ≡ pos (whole env)) × Below n f.terms
 
   abbrev Claim : LinearForm → (Env → ℕ) → (Scope → types.Rule) → Type 0
   Claim f whole names = names c ≡ Ok tt → Valued f whole
 
-  scalar_found : (x : Name) → (o : Option NameType) → look_up c x ≡ o → ◌≡◌ {A = types.Rule} (scalar_in o >>= (λ t. Ok tt)) (Ok tt) → Found hs x
+  scalar_found : (x : Name) → (o : Option NameType) → look_up c x ≡ o
+      → ◌≡◌ {A = types.Rule} (scalar_in o >>= (λ t. Ok tt)) (Ok tt) → Found hs x
   scalar_found x None at is = absurd (let bad : ◌≡◌ {A = types.Rule} (Err why.Unknown) (Ok tt) = is in cc)
   scalar_found x (Some (One t)) at is = knows x t at
   scalar_found x (Some (Many t m)) at is = absurd (let bad : ◌≡◌ {A = types.Rule} (Err why.NotScalar) (Ok tt) = is in cc)
@@ -136,7 +150,8 @@ module _ (c : Scope) (hs : List Held) (knows : Knows c hs) (env : Env) (numbers 
 
   abbrev StepValued : Lin-F Lin → Type 0
   StepValued y =
-      Claim (side_step (form_in hs) (map-Lin Lin LinearForm (side (form_in hs)) y)) (value.whole_step (map-Lin Lin (Env → ℕ) value.whole y))
+      Claim (side_step (form_in hs) (map-Lin Lin LinearForm (side (form_in hs)) y))
+      (value.whole_step (map-Lin Lin (Env → ℕ) value.whole y))
       (types.names_step (map-Lin Lin (Scope → types.Rule) types.names_scalars y))
 
   step_valued : (y : Lin-F Proved) → StepValued (bare y)
@@ -169,7 +184,8 @@ module _ (c : Scope) (hs : List Held) (knows : Knows c hs) (env : Env) (numbers 
   side_valued : (a : Lin) → IsValued a
   side_valued = ind-Lin IsValued (λ z y is. subst (λ r. IsValued (roll-Lin r)) is (rolled (bare y) (step_valued y)))
 
-  pub fact_holds : (r : Le) → types.fact r c ≡ Ok tt → value.met r env ≡ true → (pos 0 ≤ℤ value_at numbers (difference (form_in hs) r)) × Known n (difference (form_in hs) r)
+  pub fact_holds : (r : Le) → types.fact r c ≡ Ok tt → value.met r env ≡ true
+      → (pos 0 ≤ℤ value_at numbers (difference (form_in hs) r)) × Known n (difference (form_in hs) r)
   fact_holds r is met =
       let names_low : Answered (types.names_scalars r.low c) _ tt = answered _ _ tt is in
       let names_high : Answered (types.names_scalars r.high c) _ tt = answered _ _ tt names_low.two in
@@ -184,33 +200,47 @@ module _ (c : Scope) (hs : List Held) (knows : Knows c hs) (env : Env) (numbers 
       )
     where
       not_negative : (z x y : ℤ) (a b : ℕ) → z ≡ x +ℤ neg_ℤ y → x ≡ pos a → y ≡ pos b → b ≤ a → pos 0 ≤ℤ z
-      not_negative z x y a b at is_x is_y less = let at_numbers : z ≡ pos a +ℤ neg_ℤ (pos b) = rw (at, is_x, is_y) refl in omega (arith, ints, at_numbers, less)
+      not_negative z x y a b at is_x is_y less = let at_numbers : z ≡ pos a +ℤ neg_ℤ (pos b) = rw (at, is_x, is_y) refl in
+          omega (arith, ints, at_numbers, less)
 
 -- the rule of a requirement, and that it holds
-facts_of : (c : Scope) (k : ℕ) (rs : List Le) → types.requirements k rs c ≡ Ok tt → (i : ℕ) (r : Le) → slice_get rs i ≡ Some r → types.fact r c ≡ Ok tt
+facts_of : (c : Scope) (k : ℕ) (rs : List Le) → types.requirements k rs c ≡ Ok tt → (i : ℕ) (r : Le) → slice_get rs i ≡ Some r
+    → types.fact r c ≡ Ok tt
 facts_of c k [] is i r at = absurd (let bad : None ≡ Some r = at in cc)
 facts_of c k (s ∷ rs) is i r at = by i at (λ j there. facts_of c (next k) rs parts.two j r there) where
   parts : Answered (types.at (Require k) (types.requirement k s c)) (λ u. types.requirements (next k) rs c) tt
   parts = answered _ _ tt is
 
   first : (few : Bool) → nat_lt k 4096 ≡ few → types.fact s c ≡ Ok tt
-  first true e = subst (λ (b : Bool). ◌≡◌ {A = types.Rule} (if b then types.fact s c else Err why.WideForm) (Ok tt)) e (at_place (Require k) _ tt parts.one)
-  first false e = absurd (let bad : ◌≡◌ {A = types.Rule} (Err why.WideForm) (Ok tt) = subst (λ (b : Bool). ◌≡◌ {A = types.Rule} (if b then types.fact s c else Err why.WideForm) (Ok tt)) e (at_place (Require k) _ tt parts.one) in cc)
+  first true e = subst (λ (b : Bool). ◌≡◌ {A = types.Rule} (if b then types.fact s c else Err why.WideForm) (Ok tt)) e
+      (at_place (Require k) _ tt parts.one)
+  first false e = absurd (let bad : ◌≡◌ {A = types.Rule} (Err why.WideForm) (Ok tt) = subst
+      (λ (b : Bool). ◌≡◌ {A = types.Rule} (if b then types.fact s c else Err why.WideForm) (Ok tt)) e
+      (at_place (Require k) _ tt parts.one) in cc)
 
-  by : (j : ℕ) → slice_get (s ∷ rs) j ≡ Some r → ((j : ℕ) → slice_get rs j ≡ Some r → types.fact r c ≡ Ok tt) → types.fact r c ≡ Ok tt
+  by : (j : ℕ) → slice_get (s ∷ rs) j ≡ Some r → ((j : ℕ) → slice_get rs j ≡ Some r → types.fact r c ≡ Ok tt)
+      → types.fact r c ≡ Ok tt
   by zero here more = let same : s ≡ r = cc in subst (λ (q : Le). types.fact q c ≡ Ok tt) same (first (nat_lt k 4096) refl)
   by (suc j) there more = more j there
 
 abbrev Judged : Type 0
 Judged = Result (Unit {0}) Refusal
 
-met_of : (env : Env) (k : ℕ) (rs : List Le) → value.all_met k rs env ≡ Ok tt → (i : ℕ) (r : Le) → slice_get rs i ≡ Some r → value.met r env ≡ true
+met_of : (env : Env) (k : ℕ) (rs : List Le) → value.all_met k rs env ≡ Ok tt → (i : ℕ) (r : Le) → slice_get rs i ≡ Some r
+    → value.met r env ≡ true
 met_of env k [] is i r at = absurd (let bad : None ≡ Some r = at in cc)
 met_of env k (s ∷ rs) is i r at = by (value.met s env) refl i at (λ rest j there. met_of env (next k) rs rest j r there) where
-  by : (b : Bool) → value.met s env ≡ b → (j : ℕ) → slice_get (s ∷ rs) j ≡ Some r → (value.all_met (next k) rs env ≡ Ok tt → (j : ℕ) → slice_get rs j ≡ Some r → value.met r env ≡ true) → value.met r env ≡ true
-  by false e j here more = absurd (let bad : ◌≡◌ {A = Judged} (Err (BadArguments (OfRequire k))) (Ok tt) = subst (λ (b : Bool). ◌≡◌ {A = Judged} (if b then value.all_met (next k) rs env else Err (BadArguments (OfRequire k))) (Ok tt)) e is in cc)
+  by : (b : Bool) → value.met s env ≡ b → (j : ℕ) → slice_get (s ∷ rs) j ≡ Some r
+      → (value.all_met (next k) rs env ≡ Ok tt → (j : ℕ) → slice_get rs j ≡ Some r → value.met r env ≡ true)
+      → value.met r env ≡ true
+  by false e j here more = absurd
+      (let bad : ◌≡◌ {A = Judged} (Err (BadArguments (OfRequire k))) (Ok tt) = subst
+      (λ (b : Bool). ◌≡◌ {A = Judged} (if b then value.all_met (next k) rs env else Err (BadArguments (OfRequire k))) (Ok tt)) e
+      is in cc)
   by true e zero here more = let same : s ≡ r = cc in subst (λ (q : Le). value.met q env ≡ true) same e
-  by true e (suc j) there more = more (subst (λ (b : Bool). ◌≡◌ {A = Judged} (if b then value.all_met (next k) rs env else Err (BadArguments (OfRequire k))) (Ok tt)) e is) j there
+  by true e (suc j) there more =
+      more (subst (λ (b : Bool). ◌≡◌ {A = Judged} (if b then value.all_met (next k) rs env else Err (BadArguments (OfRequire k)))
+      (Ok tt)) e is) j there
 
 -- an element of a mapped list
 record Mapped {A B : Type 0} (f : A → B) (xs : List A) (i : ℕ) (y : B) : Type 0 where
@@ -223,7 +253,8 @@ mapped f [] i y at = absurd (let bad : None ≡ Some y = at in cc)
 mapped f (x ∷ xs) zero y at = record { from = x; at = refl; is = cc }
 mapped f (x ∷ xs) (suc i) y at = let m = mapped f xs i y at in record { from = m.from; at = m.at; is = m.is }
 
-module _ (m : Model) (well : types.Well m) (args : List Arg) (meets : value.Meets m args) (pointers : ℕ → ℕ) (mem : Bytes) (locals : Locals)
+module _ (m : Model) (well : types.Well m) (args : List Arg) (meets : value.Meets m args) (pointers : ℕ → ℕ) (mem : Bytes)
+    (locals : Locals)
     (has_arguments : HasArguments 0 0 m.params args pointers mem locals) (are_apart : AreApart (call_of m args pointers)) where
   nothing_yet : Arrived args (call_of m args pointers) mem locals (numbers_of (call_of m args pointers)) [] empty [] 0
   nothing_yet = record {
@@ -235,44 +266,58 @@ module _ (m : Model) (well : types.Well m) (args : List Arg) (meets : value.Meet
     below = λ s top bad. absurd (let worse : None ≡ Some top = bad in cc);
   }
 
-  all : AllHere args (call_of m args pointers) (λ p. refl) mem locals (start_scope m well).scope (with_params 0 m.params empty) (value.start m.params args [])
-  all = params_arrived args (call_of m args pointers) (λ p. refl) mem locals m.params args [] (start_scope m well).scope empty [] 0 nothing_yet (start_scope m well).declares has_arguments
+  all : AllHere args (call_of m args pointers) (λ p. refl) mem locals (start_scope m well).scope (with_params 0 m.params empty)
+      (value.start m.params args [])
+  all = params_arrived args (call_of m args pointers) (λ p. refl) mem locals m.params args [] (start_scope m well).scope empty []
+      0 nothing_yet (start_scope m well).declares has_arguments
       (record { entries = refl; count = omega arith; args = refl })
 
-  here : Arrived args (call_of m args pointers) mem locals (numbers_of (call_of m args pointers)) (start_scope m well).scope (with_params 0 m.params empty) (value.start m.params args []) all.params
+  here : Arrived args (call_of m args pointers) mem locals (numbers_of (call_of m args pointers)) (start_scope m well).scope
+      (with_params 0 m.params empty) (value.start m.params args []) all.params
   here = all.here
 
   symbols : length (with_params 0 m.params empty).tops ≡ length (with_params 0 m.params empty).scalars
   symbols = all.here.tops
 
-  scalar_known : (i : ℕ) (h : Held) → slice_get (with_params 0 m.params empty).scalars i ≡ Some h → Below (length (with_params 0 m.params empty).tops) h.form.terms
+  scalar_known : (i : ℕ) (h : Held) → slice_get (with_params 0 m.params empty).scalars i ≡ Some h
+      → Below (length (with_params 0 m.params empty).tops) h.form.terms
   scalar_known i h stands =
       let less = slice_get_within (with_params 0 m.params empty).scalars i h stands in
       let enough = symbols in
-      subst (λ (f : LinearForm). Below (length (with_params 0 m.params empty).tops) f.terms) (sym (here.scalars i h stands).form) (omega (arith, less, enough), tt)
+      subst (λ (f : LinearForm). Below (length (with_params 0 m.params empty).tops) f.terms) (sym (here.scalars i h stands).form)
+      (omega (arith, less, enough), tt)
 
   -- the scalar of a name fits
   scalar_fits : (x : Name) (h : Held) → find (is_scalar x) (with_params 0 m.params empty).scalars ≡ Some h
       → ScalarFits (numbers_of (call_of m args pointers)) h (value_of (value.start m.params args []) x) locals
   scalar_fits x h found =
       let s : Somewhere (is_scalar x) (with_params 0 m.params empty).scalars h = somewhere _ _ h found in
-      subst (λ (y : Name). ScalarFits (numbers_of (call_of m args pointers)) h (value_of (value.start m.params args []) y) locals) ((bytes_decides h.name x).0 s.passes) (here.scalars s.place h s.at).fits
+      subst (λ (y : Name). ScalarFits (numbers_of (call_of m args pointers)) h (value_of (value.start m.params args []) y) locals)
+      ((bytes_decides h.name x).0 s.passes) (here.scalars s.place h s.at).fits
 
   clause_fits : (a : Name) (k : Clause) → find (is_clause a) (with_params 0 m.params empty).clauses ≡ Some k
-      → ClauseFits (call_of m args pointers) (numbers_of (call_of m args pointers)) k (value_of (value.start m.params args []) a) mem locals
+      → ClauseFits (call_of m args pointers) (numbers_of (call_of m args pointers)) k (value_of (value.start m.params args []) a)
+      mem locals
   clause_fits a k found =
       let s : Somewhere (is_clause a) (with_params 0 m.params empty).clauses k = somewhere _ _ k found in
-      subst (λ (y : Name). ClauseFits (call_of m args pointers) (numbers_of (call_of m args pointers)) k (value_of (value.start m.params args []) y) mem locals) ((bytes_decides k.name a).0 s.passes) (here.clauses s.place k s.at).fits
+      subst (λ (y : Name). ClauseFits (call_of m args pointers) (numbers_of (call_of m args pointers)) k
+      (value_of (value.start m.params args []) y) mem locals) ((bytes_decides k.name a).0 s.passes)
+      (here.clauses s.place k s.at).fits
 
   name_valued : (x : Name) → Found (with_params 0 m.params empty).scalars x
-      → (value_at (numbers_of (call_of m args pointers)) (form_in (with_params 0 m.params empty).scalars x) ≡ pos (number (value_of (value.start m.params args []) x)))
+      → (value_at (numbers_of (call_of m args pointers)) (form_in (with_params 0 m.params empty).scalars x)
+      ≡ pos (number (value_of (value.start m.params args []) x)))
       × Below (length (with_params 0 m.params empty).tops) (form_in (with_params 0 m.params empty).scalars x).terms
   name_valued x f =
       let fits = scalar_fits x f.scalar f.is in
       let s : Somewhere (is_scalar x) (with_params 0 m.params empty).scalars f.scalar = somewhere _ _ f.scalar f.is in
       let form : form_in (with_params 0 m.params empty).scalars x ≡ f.scalar.form = rw (f.is) refl in
-      let value_is : number (value_of (value.start m.params args []) x) ≡ fits.number = ap number fits.value in
-      (ap (value_at (numbers_of (call_of m args pointers))) form ∙ fits.form ∙ ap pos (sym value_is), subst (λ (g : LinearForm). Below (length (with_params 0 m.params empty).tops) g.terms) (sym form) (scalar_known s.place f.scalar s.at))
+      let value_is : number (value_of (value.start m.params args []) x) ≡ fits.number = ap number fits.value in (
+        ap (value_at (numbers_of (call_of m args pointers))) form ∙ fits.form
+            ∙ ap pos (sym value_is),
+        subst (λ (g : LinearForm). Below (length (with_params 0 m.params empty).tops) g.terms)
+            (sym form) (scalar_known s.place f.scalar s.at),
+      )
 
   all_met : value.all_met 0 m.requires_ (value.start m.params args []) ≡ Ok tt
   all_met =
@@ -280,12 +325,18 @@ module _ (m : Model) (well : types.Well m) (args : List Arg) (meets : value.Meet
       let fit : Answered (value.fit 0 m.params args) _ tt = answered _ _ tt counts.two in
       fit.two
 
-  fact_fits : (i : ℕ) (f : LinearForm) → slice_get (start m).facts i ≡ Some f → (pos 0 ≤ℤ value_at (numbers_of (call_of m args pointers)) f) × Known (length (with_params 0 m.params empty).tops) f
+  fact_fits : (i : ℕ) (f : LinearForm) → slice_get (start m).facts i ≡ Some f
+      → (pos 0 ≤ℤ value_at (numbers_of (call_of m args pointers)) f) × Known (length (with_params 0 m.params empty).tops) f
   fact_fits i f stands =
-      let q : Mapped (difference (form_in (with_params 0 m.params empty).scalars)) m.requires_ i f = mapped (difference (form_in (with_params 0 m.params empty).scalars)) m.requires_ i f
-      (subst (λ (fs : List LinearForm). slice_get (fs ++ map (difference (form_in (with_params 0 m.params empty).scalars)) m.requires_) i ≡ Some f) (params_facts 0 m.params empty) stands) in
-      subst (λ (g : LinearForm). (pos 0 ≤ℤ value_at (numbers_of (call_of m args pointers)) g) × Known (length (with_params 0 m.params empty).tops) g) q.is
-      (fact_holds (start_scope m well).scope (with_params 0 m.params empty).scalars (start_kept m (start_scope m well)).knows (value.start m.params args []) (numbers_of (call_of m args pointers))
+      let q : Mapped (difference (form_in (with_params 0 m.params empty).scalars)) m.requires_ i f =
+      mapped (difference (form_in (with_params 0 m.params empty).scalars)) m.requires_ i f
+      (subst (λ (fs : List LinearForm).
+      slice_get (fs ++ map (difference (form_in (with_params 0 m.params empty).scalars)) m.requires_) i ≡ Some f)
+      (params_facts 0 m.params empty) stands) in
+      subst (λ (g : LinearForm). (pos 0 ≤ℤ value_at (numbers_of (call_of m args pointers)) g)
+      × Known (length (with_params 0 m.params empty).tops) g) q.is
+      (fact_holds (start_scope m well).scope (with_params 0 m.params empty).scalars (start_kept m (start_scope m well)).knows
+      (value.start m.params args []) (numbers_of (call_of m args pointers))
       (length (with_params 0 m.params empty).tops) name_valued q.from
       (facts_of (start_scope m well).scope 0 m.requires_ (start_scope m well).requires_ i q.from q.at)
       (met_of (value.start m.params args []) 0 m.requires_ all_met i q.from q.at))
@@ -297,7 +348,9 @@ module _ (m : Model) (well : types.Well m) (args : List Arg) (meets : value.Meet
   consistent = record {
     entries_known = (let enough = symbols in omega (arith, enough));
     scalars_known = λ i h stands. below_known _ _ (scalar_known i h stands);
-    lengths_known = λ i k stands. (let same : length (call_of m args pointers).entries ≡ length (with_params 0 m.params empty).tops = sym (symbols ∙ all.count) in subst (λ (n : ℕ). Known n k.length) same (here.clauses i k stands).length_known);
+    lengths_known = λ i k stands. (let same : length (call_of m args pointers).entries
+        ≡ length (with_params 0 m.params empty).tops = sym (symbols ∙ all.count) in
+        subst (λ (n : ℕ). Known n k.length) same (here.clauses i k stands).length_known);
     facts_known = λ i f stands. (fact_fits i f stands).1;
     scalars_apart = here.scalars_apart;
     clauses_apart = here.clauses_apart;
@@ -305,7 +358,8 @@ module _ (m : Model) (well : types.Well m) (args : List Arg) (meets : value.Meet
     lengths_reserved = λ i k l stands is. (reserved i k stands).1 l is;
   }
 
-  fits_at_start : FitsBy (call_of m args pointers) (numbers_of (call_of m args pointers)) (start m) (value.start m.params args []) mem locals
+  fits_at_start : FitsBy (call_of m args pointers) (numbers_of (call_of m args pointers)) (start m) (value.start m.params args [])
+      mem locals
   fits_at_start = record {
     consistent = consistent;
     entry_count = all.count;
@@ -319,8 +373,12 @@ module _ (m : Model) (well : types.Well m) (args : List Arg) (meets : value.Meet
   args_at_start : ArgsHeld args (start m) (value.start m.params args [])
   args_at_start a k found never =
       let s : Somewhere (is_clause a) (with_params 0 m.params empty).clauses k = somewhere _ _ k found in
-      subst (λ (y : Name). value_of (value.start m.params args []) y ≡ slice_get args k.param) ((bytes_decides k.name a).0 s.passes) (here.clauses s.place k s.at).given
+      subst (λ (y : Name). value_of (value.start m.params args []) y ≡ slice_get args k.param)
+      ((bytes_decides k.name a).0 s.passes) (here.clauses s.place k s.at).given
 
 pub start_fits : StartFits
-start_fits m well args meets pointers mem locals has_arguments are_apart =
-    (fits_at_start m well args meets pointers mem locals has_arguments are_apart, args_at_start m well args meets pointers mem locals has_arguments are_apart)
+start_fits m well args meets pointers mem locals has_arguments are_apart = (
+  fits_at_start m well args meets pointers mem locals has_arguments are_apart,
+  args_at_start m well args meets pointers mem
+      locals has_arguments are_apart,
+)

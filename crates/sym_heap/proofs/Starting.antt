@@ -1,5 +1,6 @@
 -- The context of the arguments: how many locals a parameter takes.
-use Rattle.std.proofs.Common.{◌≡◌, refl, ◌∙◌, ap, append_assoc, arith, ℕ, ◌+◌, ◌≤◌, Some, List, [], ◌∷◌, length, Option, length-append}
+use Rattle.std.proofs.Common.{◌≡◌, refl, ◌∙◌, ap, append_assoc, arith, ℕ, ◌+◌, ◌≤◌, Some, List, [], ◌∷◌, length, Option}
+use Rattle.std.proofs.Common.{length-append}
 use Rattle.side_certs.specs.LinearForm.{LinearForm, symbol}
 use Rattle.model_syntax.specs.declared.expr.Scalar.{Scalar}
 use Rattle.model_syntax.specs.declared.expr.Scalar.TheVariants.{Word, Byte}
@@ -9,15 +10,18 @@ use Rattle.model_syntax.specs.declared.program.Param.{Param}
 use Rattle.model_syntax.specs.declared.program.Param.TheVariants as param
 use Rattle.model_syntax.specs.Names.{Name}
 use Rattle.sym_heap.specs.Context.{Context, held, with_fact}
-use Rattle.sym_heap.specs.Start.{next_local, with_argument, clause, with_pointer, with_array, with_param, with_params, with_facts, length_registers, registers_of, registers}
+use Rattle.sym_heap.specs.Start.{next_local, with_argument, clause, with_pointer, with_array, with_param, with_params, with_facts}
+use Rattle.sym_heap.specs.Start.{length_registers, registers_of, registers}
 
 pub after_argument : (x : Name) (t : Scalar) (c : Context) → next_local (with_argument x t c) ≡ next_local c + 1
 after_argument x t c = omega (arith, length-append c.scalars (held x (next_local c) (symbol (length c.scalars)) t ∷ []))
 
-pub after_pointer : (p : ℕ) (a : Name) (size : ℕ) (f : LinearForm) (l : Option ℕ) (c : Context) → next_local (with_pointer p a size f l c) ≡ next_local c + 1
+pub after_pointer : (p : ℕ) (a : Name) (size : ℕ) (f : LinearForm) (l : Option ℕ) (c : Context)
+    → next_local (with_pointer p a size f l c) ≡ next_local c + 1
 after_pointer p a size f l c = omega (arith, length-append c.clauses (clause a p size (next_local c) f l ∷ []))
 
-after_array : (p : ℕ) (a : Name) (size : ℕ) (n : Len) (c : Context) → next_local (with_array p a size n c) ≡ next_local c + (1 + length_registers n)
+after_array : (p : ℕ) (a : Name) (size : ℕ) (n : Len) (c : Context)
+    → next_local (with_array p a size n c) ≡ next_local c + (1 + length_registers n)
 after_array p a size (Fixed n) c = after_pointer p a size _ _ c
 after_array p a size (Named x) c =
     let pointed : Context = with_pointer p a size (symbol (length c.scalars)) (Some (next_local c + 1)) c in

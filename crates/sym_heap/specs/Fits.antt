@@ -1,5 +1,6 @@
 -- When a state fits a context: each symbol has a number such that locals, values and memory are what the context says.
-use Rattle.std.specs.Prelude.{◌≡◌, ◌≢◌, ℕ, ◌+◌, ◌%◌, ◌^◌, ◌<◌, ◌≤◌, true, false, List, [], ◌∷◌, length, map, Option, Some, None, slice_get, ℤ, pos}
+use Rattle.std.specs.Prelude.{◌≡◌, ◌≢◌, ℕ, ◌+◌, ◌%◌, ◌^◌, ◌<◌, ◌≤◌, true, false, List, [], ◌∷◌, length, map, Option, Some, None}
+use Rattle.std.specs.Prelude.{slice_get, ℤ, pos}
 use Rattle.std.specs.List.{flat_map}
 use Rattle.std.specs.Int.{w32, to_le_bytes}
 use Rattle.rup_base.specs.declared.arg.Arg.{Arg}
@@ -72,12 +73,15 @@ pub record IsConsistent (c : Context) : Type 0 where
   pub lengths_known : (i : ℕ) (k : Clause) → slice_get c.clauses i ≡ Some k → Known (length c.tops) k.length
   pub facts_known : (i : ℕ) (f : LinearForm) → slice_get c.facts i ≡ Some f → Known (length c.tops) f
   -- a scalar's name and its local are its own
-  pub scalars_apart : (i j : ℕ) (h k : Held) → slice_get c.scalars i ≡ Some h → slice_get c.scalars j ≡ Some k → i ≢ j → (same h.name k.name ≡ false) × (h.local ≢ k.local)
+  pub scalars_apart : (i j : ℕ) (h k : Held) → slice_get c.scalars i ≡ Some h → slice_get c.scalars j ≡ Some k → i ≢ j
+      → (same h.name k.name ≡ false) × (h.local ≢ k.local)
   -- a clause's name and its parameter are its own
-  pub clauses_apart : (i j : ℕ) (k l : Clause) → slice_get c.clauses i ≡ Some k → slice_get c.clauses j ≡ Some l → i ≢ j → (same k.name l.name ≡ false) × (k.param ≢ l.param)
+  pub clauses_apart : (i j : ℕ) (k l : Clause) → slice_get c.clauses i ≡ Some k → slice_get c.clauses j ≡ Some l → i ≢ j
+      → (same k.name l.name ≡ false) × (k.param ≢ l.param)
   -- pointer and length locals are reserved
   pub pointers_reserved : (i : ℕ) (k : Clause) → slice_get c.clauses i ≡ Some k → has k.pointer c.reserved ≡ true
-  pub lengths_reserved : (i : ℕ) (k : Clause) (l : ℕ) → slice_get c.clauses i ≡ Some k → k.length_local ≡ Some l → has l c.reserved ≡ true
+  pub lengths_reserved : (i : ℕ) (k : Clause) (l : ℕ) → slice_get c.clauses i ≡ Some k → k.length_local ≡ Some l
+      → has l c.reserved ≡ true
 
 -- States.
 
@@ -97,16 +101,17 @@ IsArray size (Some (arg.Bytes ns)) = (size ≡ 1) × (all_true (map is_byte ns) 
 IsArray size (Some (arg.Words ns)) = (size ≡ 4) × (all_true (map is_word ns) ≡ true)
 
 -- the value of a clause's name is an array of its type and length, which stands where the parameter's array did
-pub record ClauseFits (call : Call) (numbers : ℕ → ℕ) (k : Clause) (found : Option Arg) (mem : Bytes) (locals : Locals) : Type 0 where
-  pub array : IsArray k.size found
-  pub form : value_at numbers k.length ≡ pos (length (elements found))
-  pub length_local : (l : ℕ) → k.length_local ≡ Some l → locals l ≡ Some (length (elements found))
-  pub parameter : length (array_bytes found) ≡ call.sizes k.param
-  pub pointer : locals k.pointer ≡ Some (call.pointers k.param)
-  pub stands : Stands mem (call.pointers k.param) (array_bytes found)
-  pub few : length (elements found) ≤ 4294967295
-  pub aligned : call.pointers k.param % k.size ≡ 0
-  pub ends : call.pointers k.param + length (array_bytes found) ≤ 2 ^ 32
+pub record ClauseFits (call : Call) (numbers : ℕ → ℕ) (k : Clause) (found : Option Arg) (mem : Bytes) (locals : Locals) : Type 0
+  where
+    pub array : IsArray k.size found
+    pub form : value_at numbers k.length ≡ pos (length (elements found))
+    pub length_local : (l : ℕ) → k.length_local ≡ Some l → locals l ≡ Some (length (elements found))
+    pub parameter : length (array_bytes found) ≡ call.sizes k.param
+    pub pointer : locals k.pointer ≡ Some (call.pointers k.param)
+    pub stands : Stands mem (call.pointers k.param) (array_bytes found)
+    pub few : length (elements found) ≤ 4294967295
+    pub aligned : call.pointers k.param % k.size ≡ 0
+    pub ends : call.pointers k.param + length (array_bytes found) ≤ 2 ^ 32
 
 -- with these numbers for its symbols the context is true of the values, the memory and the locals
 pub record FitsBy (call : Call) (numbers : ℕ → ℕ) (c : Context) (env : Env) (mem : Bytes) (locals : Locals) : Type 0 where
@@ -116,7 +121,8 @@ pub record FitsBy (call : Call) (numbers : ℕ → ℕ) (c : Context) (env : Env
   pub holds : Holds numbers c.facts c.tops
   pub scalars : (x : Name) (h : Held) → scalar c x ≡ Some h → ScalarFits numbers h (value_of env x) locals
   pub clauses : (a : Name) (k : Clause) → own c a ≡ Some k → ClauseFits call numbers k (value_of env a) mem locals
-  pub ranges : (i j : ℕ) (k l : Clause) → slice_get c.clauses i ≡ Some k → slice_get c.clauses j ≡ Some l → i ≢ j → Apart (range_of call k.param) (range_of call l.param)
+  pub ranges : (i j : ℕ) (k l : Clause) → slice_get c.clauses i ≡ Some k → slice_get c.clauses j ≡ Some l → i ≢ j
+      → Apart (range_of call k.param) (range_of call l.param)
 
 -- an array that was never written is its parameter's argument
 abbrev pub ArgsHeld : List Arg → Context → Env → Type 0
@@ -132,7 +138,8 @@ Agree n numbers after = (s : ℕ) → s < n → after s ≡ numbers s
 
 -- a later state fits a later context, and each symbol of the context before has the number that it had
 abbrev pub FitsOn : Call → ℕ → (ℕ → ℕ) → Context → Env → Bytes → Locals → Type 0
-FitsOn call symbols numbers after env mem locals = (others : ℕ → ℕ) × Agree symbols numbers others × FitsBy call others after env mem locals
+FitsOn call symbols numbers after env mem locals = (others : ℕ → ℕ) × Agree symbols numbers others
+    × FitsBy call others after env mem locals
 
 -- every local that the context reserves has the same value in both
 abbrev pub ReservedKept : Context → Locals → Locals → Type 0

@@ -4,7 +4,8 @@ use Rattle.side_certs.specs.LinearForm.{LinearForm}
 use Rattle.model_syntax.specs.Names.{Name}
 use Rattle.sym_heap.specs.declared.parts.Held.{Held}
 use Rattle.sym_heap.specs.declared.parts.Clause.{Clause}
-use Rattle.sym_heap.specs.Context.{Context, scalar, has, is_free, with_top, with_scalar, with_fact, with_clause, renamed, written, back_to}
+use Rattle.sym_heap.specs.Context.{Context, scalar, has, is_free, with_top, with_scalar, with_fact, with_clause, renamed, written}
+use Rattle.sym_heap.specs.Context.{back_to}
 use Rattle.sym_heap.specs.Fits.{IsConsistent}
 use Rattle.sym_heap.specs.Ends.{of_param, standing, restored, with_ends}
 

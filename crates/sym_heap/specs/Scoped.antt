@@ -15,7 +15,8 @@ use Rattle.model_syntax.specs.Scope.{Scope, look_up, bind, scalar_may_take}
 use Rattle.model_syntax.specs.Types as types
 use Rattle.sym_heap.specs.declared.parts.Held.{Held}
 use Rattle.sym_heap.specs.declared.parts.Clause.{Clause}
-use Rattle.sym_heap.specs.Context.{Context, scalar, with_top, with_fact, with_reserved, with_scalar, with_clause, without_clause, renamed, written, back_to}
+use Rattle.sym_heap.specs.Context.{Context, scalar, with_top, with_fact, with_reserved, with_scalar, with_clause, without_clause}
+use Rattle.sym_heap.specs.Context.{renamed, written, back_to}
 use Rattle.sym_heap.specs.Ends.{standing, restored, with_ends}
 use Rattle.sym_heap.specs.Moves.{Follow, ParamsOnce}
 use Rattle.sym_heap.specs.Start.{start}

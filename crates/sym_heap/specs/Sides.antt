@@ -46,7 +46,8 @@ given_form (Some g) x = if same g.0.now x then Some g.1.now else None
 -- the form of a name: the given one, that of the ends where the name is listed, else that of the other scalars
 abbrev pub form_of : NameForms → Name → LinearForm
 form_of n x =
-    unwrap_or (given_form n.given x) (if list_any (λ y. same y x) n.listed.now then form_in n.ends.now x else form_in n.others.now x)
+    unwrap_or (given_form n.given x)
+    (if list_any (λ y. same y x) n.listed.now then form_in n.ends.now x else form_in n.others.now x)
 
 -- both sides keep the limits of linear forms over names in each part, as they do in every well typed model
 pub record IsNarrow (r : Le) : Type 0 where

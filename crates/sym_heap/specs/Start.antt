@@ -28,7 +28,8 @@ with_argument x t c = record c {
 }
 
 abbrev pub clause : Name → ℕ → ℕ → ℕ → LinearForm → Option ℕ → Clause
-clause a p size pointer len len_local = record { name = a; param = p; size = size; pointer = pointer; length = len; length_local = len_local; writes = 0 }
+clause a p size pointer len len_local =
+    record { name = a; param = p; size = size; pointer = pointer; length = len; length_local = len_local; writes = 0 }
 
 -- a pointer: it takes a local, which is reserved
 abbrev pub with_pointer : ℕ → Name → ℕ → LinearForm → Option ℕ → Context → Context
@@ -41,7 +42,8 @@ with_pointer p a size len len_local c = record c {
 abbrev pub with_array : ℕ → Name → ℕ → Len → Context → Context
 with_array p a size (Fixed n) c = with_pointer p a size (constant (pos n)) None c
 with_array p a size (Named x) c =
-    with_reserved (next_local c + 1) (with_argument x Word (with_pointer p a size (symbol (length c.scalars)) (Some (next_local c + 1)) c))
+    with_reserved (next_local c + 1)
+    (with_argument x Word (with_pointer p a size (symbol (length c.scalars)) (Some (next_local c + 1)) c))
 
 -- the parameter of number p
 abbrev pub with_param : ℕ → Param → Context → Context

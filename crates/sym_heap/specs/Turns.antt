@@ -1,6 +1,7 @@
 -- Turns of a loop: in which states they begin, and that in each of them, whatever the ones before have written, the context at
 -- the start of the loop's block fits. The context before the block, after the loop's bounds, is c in all turns.
-use Rattle.std.specs.Prelude.{◌≡◌, ◌≢◌, ℕ, ◌≤◌, true, false, List, [], ◌∷◌, ◌++◌, length, take, slice_get, Some, None, if◌then◌else◌}
+use Rattle.std.specs.Prelude.{◌≡◌, ◌≢◌, ℕ, ◌≤◌, true, false, List, [], ◌∷◌, ◌++◌, length, take, slice_get, Some, None}
+use Rattle.std.specs.Prelude.{if◌then◌else◌}
 use Rattle.rup_base.specs.declared.arg.Arg.TheVariants as arg
 use Rattle.rv_memory.specs.Ranges.{Bytes}
 use Rattle.side_certs.specs.LinearForm.{symbol}

@@ -92,7 +92,8 @@ impl Ctx {
     /// free for it; then nothing changes.
     pub fn bind(&mut self, x: &Name, local: u32, form: Form, kind: Scalar) -> Result<bool, NoMemory>
         ensures free { IfOk result (λ bound. bound ≡ spec.is_free self.old local (Some x.now)) }
-        ensures after { IfOk result (λ bound. self.new ≡ (if bound then spec.with_scalar (spec.held x.now local form kind) self.old else self.old)) }
+        ensures after { IfOk result (λ bound. self.new
+            ≡ (if bound then spec.with_scalar (spec.held x.now local form kind) self.old else self.old)) }
     {
         if !self.is_free(local, Some(x)) {
             return Ok(false);
@@ -129,7 +130,8 @@ impl Ctx {
     /// Names the clause of `a` `b`. False exactly where `a` names no clause or `b` names another; then nothing changes.
     pub fn move_clause(&mut self, a: &Name, b: &Name) -> Result<bool, NoMemory>
         ensures can_move { IfOk result (λ moved. moved ≡ spec.can_move self.old a.now b.now) }
-        ensures after { IfOk result (λ moved. self.new ≡ (if moved then spec.with_clause a.now (spec.renamed b.now) self.old else self.old)) }
+        ensures after { IfOk result (λ moved. self.new
+            ≡ (if moved then spec.with_clause a.now (spec.renamed b.now) self.old else self.old)) }
     {
         if !self.can_move(a, b) {
             return Ok(false);

@@ -26,7 +26,8 @@ module _ (A : Type 0) (step : BExpr-F A → A) where
   pub fold_load : (size : Size) (a : BExpr) → inside (expr.Load size a) ≡ step (e.Load size (inside a))
   fold_load size a = ap inside (sym (expr.rolls-Load size a)) ∙ fold-roll-BExpr A step (e.Load size a)
 
-  pub fold_table : (size : Size) (bytes : List ℕ) (i : BExpr) → inside (expr.Table size bytes i) ≡ step (e.Table size bytes (inside i))
+  pub fold_table : (size : Size) (bytes : List ℕ) (i : BExpr)
+      → inside (expr.Table size bytes i) ≡ step (e.Table size bytes (inside i))
   fold_table size bytes i = ap inside (sym (expr.rolls-Table size bytes i)) ∙ fold-roll-BExpr A step (e.Table size bytes i)
 
 module _ (A : Type 0) (step : Cmd-F A → A) where

@@ -16,7 +16,8 @@ use Rattle.model_syntax.specs.declared.expr.Scalar.TheVariants.{Word, Byte}
 use Rattle.model_syntax.specs.declared.program.Len.TheVariants.{Named}
 use Rattle.model_syntax.specs.declared.scope.NameType.TheVariants.{Scalar as One, Array as Many}
 use Rattle.model_syntax.proofs.laws.Numbers.{low_byte}
-use Rattle.bench_gen.specs.Generator.{word_name, array_name, length_name, scalar, first, statements, body, rets, model, byte, arguments}
+use Rattle.bench_gen.specs.Generator.{word_name, array_name, length_name, scalar, first, statements, body, rets, model, byte}
+use Rattle.bench_gen.specs.Generator.{arguments}
 use Rattle.bench_gen.proofs.Modest.{Singles, drawn_singles, first_singles}
 use Rattle.bench_gen.proofs.Nodes.{below_eight}
 use Rattle.bench_gen.proofs.Typing.{Stands, Ends, first_leads, first_of, drawn_end}
@@ -61,7 +62,8 @@ eight_stand = record {
   scalars = below_eight (λ k. look_up (scope_at 8) (scalar k) ≡ Some (One Word)) refl refl refl refl refl refl refl refl;
 }
 
-bound_first : (k : ℕ) (bs : List Block) → look_up (scope_at k) word_name ≡ Some (One Word) → scalar_may_take (look_up (scope_at k) (scalar k)) ≡ Ok tt
+bound_first : (k : ℕ) (bs : List Block) → look_up (scope_at k) word_name ≡ Some (One Word)
+    → scalar_may_take (look_up (scope_at k) (scalar k)) ≡ Ok tt
     → Ends bs (scope_at (suc k)) → Ends (stmt (first k) ∷ bs) (scope_at k)
 bound_first k bs word may rest = first_of (first k) bs (scope_at k) (scope_at (suc k)) (first_leads k (scope_at k) word may) rest
 
@@ -93,4 +95,5 @@ met_with seed count bs small few each = rw (small, few, each) refl
 
 pub met : (seed count : ℕ) → seed ≤ 4294967295 → Meets (model seed count) (arguments seed)
 met seed count small =
-    met_with seed count (map (byte seed) (range_with_len 0 64)) (le-leb seed 4294967295 small) refl (all_bytes seed (range_with_len 0 64))
+    met_with seed count (map (byte seed) (range_with_len 0 64)) (le-leb seed 4294967295 small) refl
+    (all_bytes seed (range_with_len 0 64))

@@ -1,5 +1,7 @@
 -- What sums, products and greater ones come to: their values, and that their symbols are those of their parts.
-use Rattle.std.proofs.Common.{◌≡◌, ◌⊎◌, inl, inr, refl, sym, ap, ◌∙◌, arith, ℕ, zero, suc, ◌+◌, ◌*◌, ◌<◌, ◌≤◌, max, Bool, true, false, ◌&&◌, List, [], ◌∷◌, ◌++◌, Option, Some, None, Ok, Err, nat_eq, nat_le, nat_lt, nat_abs, ℤ, pos, ◌*ℤ◌, slice_index_or, if◌then◌else◌}
+use Rattle.std.proofs.Common.{◌≡◌, ◌⊎◌, inl, inr, refl, sym, ap, ◌∙◌, arith, ℕ, zero, suc, ◌+◌, ◌*◌, ◌<◌, ◌≤◌, max, Bool, true}
+use Rattle.std.proofs.Common.{false, ◌&&◌, List, [], ◌∷◌, ◌++◌, Option, Some, None, Ok, Err, nat_eq, nat_le, nat_lt, nat_abs, ℤ}
+use Rattle.std.proofs.Common.{pos, ◌*ℤ◌, slice_index_or, if◌then◌else◌}
 use Rattle.std.specs.List.{list_all}
 use Rattle.std.specs.Int.Signed.{le_z}
 use Rattle.std.proofs.lemmas.Bool.{eqb-true, leb-true, ltb-true}
@@ -8,7 +10,10 @@ use Rattle.side_certs.specs.LinearForm.{LinearForm, share, value_at}
 use Rattle.side_certs.specs.LinearForm as linear
 use Rattle.cost_poly.specs.declared.term.Term.{Term}
 use Rattle.cost_poly.specs.declared.wide.Wide.{Wide}
-use Rattle.cost_poly.specs.Polynomial.{place_of, AreSymbols, BoundFrom, are_symbols, make, same_symbol, next_place, term, at, coefficient, coefficient_at, symbols_at, listed, greatest, greatest_coefficient, degree, within, sum, greater, form_part, product_of, product, greatest_cubic, scaled, are_entry_terms, is_entry_form}
+use Rattle.cost_poly.specs.Polynomial.{place_of, AreSymbols, BoundFrom, are_symbols, make, same_symbol, next_place, term, at}
+use Rattle.cost_poly.specs.Polynomial.{coefficient, coefficient_at, symbols_at, listed, greatest, greatest_coefficient, degree}
+use Rattle.cost_poly.specs.Polynomial.{within, sum, greater, form_part, product_of, product, greatest_cubic, scaled}
+use Rattle.cost_poly.specs.Polynomial.{are_entry_terms, is_entry_form}
 use Rattle.cost_poly.proofs.laws.Places.{and_parts, next_append, coefficients_small}
 use Rattle.cost_poly.proofs.Listed.{all_below, one_below, symbols_same, below_greatest, coefficient_small}
 use Rattle.cost_poly.proofs.Values.{place_is, sum_value, greater_value}
@@ -58,8 +63,14 @@ symbols_wider count (Some a) (Some b) few are = (are.0, omega (arith, few, are.1
 
 pub wider : (count least : ℕ) (p : List Term) → count ≤ 8 → BoundFrom least count p → BoundFrom least 8 p
 wider count least [] few bound = tt
-wider count least (t ∷ ts) few bound =
-    (symbols_wider count t.first t.second few bound.0, bound.1, bound.2, bound.3, wider count (place_of t.first t.second + 1) ts few bound.4)
+wider count least (t ∷ ts) few bound = (
+  symbols_wider count t.first t.second few bound.0,
+  bound.1,
+  bound.2,
+  bound.3,
+  wider count (place_of t.first t.second + 1) ts
+      few bound.4,
+)
 
 appended : (count least : ℕ) (ts : List Term) (t : Term) → BoundFrom least count ts → AreSymbols count t.first t.second
     → next_place least ts ≤ place_of t.first t.second
@@ -73,7 +84,8 @@ coefficient_over : (count least : ℕ) (a b : Option ℕ) (p : List Term) → Bo
     → Unless (coefficient a b p) (AreSymbols count a b)
 coefficient_over count least a b [] bound = inl refl
 coefficient_over count least a b (t ∷ ts) bound =
-    by_test (coefficient_over count (place_of t.first t.second + 1) a b ts bound.4) (same_symbol t.first a && same_symbol t.second b) refl
+    by_test (coefficient_over count (place_of t.first t.second + 1) a b ts bound.4)
+    (same_symbol t.first a && same_symbol t.second b) refl
   where
     by_test : Unless (coefficient a b ts) (AreSymbols count a b) → (same : Bool)
         → (same_symbol t.first a && same_symbol t.second b) ≡ same
@@ -85,7 +97,8 @@ coefficient_over count least a b (t ∷ ts) bound =
 
 small_of : (count : ℕ) (p : List Term) → count ≤ 8 → BoundFrom 0 count p → (place : ℕ)
     → coefficient_at p place ≤ greatest_coefficient
-small_of count p few bound place = coefficient_small (symbols_at place).0 (symbols_at place).1 p (coefficients_small 0 p (wider count 0 p few bound))
+small_of count p few bound place =
+    coefficient_small (symbols_at place).0 (symbols_at place).1 p (coefficients_small 0 p (wider count 0 p few bound))
 
 -- Polynomials of coefficients.
 
@@ -96,7 +109,8 @@ symbols_good : (place : ℕ) → place < 45 → are_symbols (symbols_at place).0
 unfolding are_test symbols_at all_below
 symbols_good place less = one_below are_test 45 place refl less
 
-module _ (count : ℕ) (numbers : ℕ → ℕ) (over : (place : ℕ) → place < 45 → Unless (numbers place) (AreSymbols count (symbols_at place).0 (symbols_at place).1))
+module _ (count : ℕ) (numbers : ℕ → ℕ)
+    (over : (place : ℕ) → place < 45 → Unless (numbers place) (AreSymbols count (symbols_at place).0 (symbols_at place).1))
     (small : (place : ℕ) → place < 45 → numbers place ≤ greatest_coefficient) where
   abbrev Listed : ℕ → Type 0
   Listed n = BoundFrom 0 count (listed numbers n) × (next_place 0 (listed numbers n) ≤ n)
@@ -116,8 +130,13 @@ module _ (count : ℕ) (numbers : ℕ → ℕ) (over : (place : ℕ) → place <
       by_test false e (inr are) =
           let place : place_of (symbols_at n).0 (symbols_at n).1 ≡ n = place_is n less in
           let one : Term = make (symbols_at n).0 (symbols_at n).1 (numbers n) in
-          let next : next_place 0 (listed numbers n ++ one ∷ []) ≡ place_of (symbols_at n).0 (symbols_at n).1 + 1 = next_append 0 (listed numbers n) one in
-          rw e (appended count 0 (listed numbers n) one so_far.0 are (omega (arith, place, so_far.1)) (grind (arith, nat_tests)) (small n less), omega (arith, next, place))
+          let next : next_place 0 (listed numbers n ++ one ∷ []) ≡ place_of (symbols_at n).0 (symbols_at n).1 + 1 =
+          next_append 0 (listed numbers n) one in
+          rw e (
+            appended count 0 (listed numbers n) one so_far.0 are (omega (arith, place, so_far.1)) (grind (arith, nat_tests))
+                (small n less),
+            omega (arith, next, place),
+          )
 
   nothing_listed : Listed 0
   unfolding listed
@@ -157,21 +176,32 @@ sum_made count p q s few one other is =
     let made = within_ok (sum p q) s is in
     let over = λ (place : ℕ) (less : place < 45).
     unless_sum (coefficient_at p place) (coefficient_at q place) (AreSymbols count (symbols_at place).0 (symbols_at place).1)
-    (coefficient_over count 0 (symbols_at place).0 (symbols_at place).1 p one) (coefficient_over count 0 (symbols_at place).0 (symbols_at place).1 q other) in
-    rw made.0 (listed_over count (sum p q) over (below_limit (sum p q) made.1), λ values. sum_value values p q (wider count 0 p few one) (wider count 0 q few other))
+    (coefficient_over count 0 (symbols_at place).0 (symbols_at place).1 p one)
+    (coefficient_over count 0 (symbols_at place).0 (symbols_at place).1 q other) in
+    rw made.0 (
+      listed_over count (sum p q) over (below_limit (sum p q) made.1),
+      λ values.
+          sum_value values p q (wider count 0 p few one) (wider count 0 q few other),
+    )
 
 -- Greater ones.
 
 pub greater_made : (count : ℕ) (p q : List Term) → count ≤ 8 → BoundFrom 0 count p → BoundFrom 0 count q
     → BoundFrom 0 count (listed (greater p q) 45)
-    × ((values : List ℕ) → (at values p ≤ at values (listed (greater p q) 45)) × (at values q ≤ at values (listed (greater p q) 45)))
+    × ((values : List ℕ) → (at values p ≤ at values (listed (greater p q) 45))
+    × (at values q ≤ at values (listed (greater p q) 45)))
 greater_made count p q few one other =
     let over = λ (place : ℕ) (less : place < 45).
     unless_max (coefficient_at p place) (coefficient_at q place) (AreSymbols count (symbols_at place).0 (symbols_at place).1)
-    (coefficient_over count 0 (symbols_at place).0 (symbols_at place).1 p one) (coefficient_over count 0 (symbols_at place).0 (symbols_at place).1 q other) in
+    (coefficient_over count 0 (symbols_at place).0 (symbols_at place).1 p one)
+    (coefficient_over count 0 (symbols_at place).0 (symbols_at place).1 q other) in
     let small : (place : ℕ) → place < 45 → greater p q place ≤ greatest_coefficient =
-    λ place less. (let first = small_of count p few one place in let second = small_of count q few other place in omega (arith, first, second)) in
-    (listed_over count (greater p q) over small, λ values. greater_value values p q (wider count 0 p few one) (wider count 0 q few other))
+    λ place less. (let first = small_of count p few one place in let second = small_of count q few other place in
+    omega (arith, first, second)) in (
+      listed_over count (greater p q) over small,
+      λ values. greater_value values p q (wider count 0 p few one)
+          (wider count 0 q few other),
+    )
 
 -- Products.
 
@@ -191,34 +221,43 @@ part_over s count f entry = by_test (nat_lt s count) refl
     by_test : (below : Bool) → nat_lt s count ≡ below → Unless (form_part f (Some s)) (s < count)
     by_test true e = inr (ltb-true _ _ e)
     by_test false e =
-        let none : linear.coefficient s f.terms ≡ pos 0 = no_coefficient s count f.terms e (and_parts (le_z (pos 0) f.constant) (list_all (is_entry_term count) f.terms) entry).1 in
+        let none : linear.coefficient s f.terms
+        ≡ pos 0 = no_coefficient s count f.terms e
+        (and_parts (le_z (pos 0) f.constant) (list_all (is_entry_term count) f.terms) entry).1 in
         inl (ap nat_abs none)
 
-module _ (count : ℕ) (p : List Term) (f : LinearForm) (bound : BoundFrom 0 count p) (entry : is_entry_form_of count f ≡ true) where
-  twice_over : (a b : ℕ) → nat_le a b ≡ true → Unless (product_of p f (Some a, Some b)) (AreSymbols count (Some a) (Some b))
-  twice_over a b e =
-      let order : a ≤ b = leb-true _ _ e in
-      let P : Type 0 = AreSymbols count (Some a) (Some b) in
-      let one = unless_first (coefficient (Some a) (Some b) p) (form_part f None) P (coefficient_over count 0 (Some a) (Some b) p bound) in
-      let two = unless_first (coefficient (Some b) None p) (form_part f (Some a)) P (unless_so (coefficient (Some b) None p) (b < count) P (λ less. (order, less)) (coefficient_over count 0 (Some b) None p bound)) in
-      let three = unless_second (coefficient (Some a) None p) (form_part f (Some b)) P (unless_so (form_part f (Some b)) (b < count) P (λ less. (order, less)) (part_over b count f entry)) in
-      let both = unless_sum (coefficient (Some a) (Some b) p * form_part f None) (coefficient (Some b) None p * form_part f (Some a)) P one two in
-      unless_sum (coefficient (Some a) (Some b) p * form_part f None + coefficient (Some b) None p * form_part f (Some a))
-      (if nat_eq a b then 0 else coefficient (Some a) None p * form_part f (Some b)) P both (last (nat_eq a b) three)
-    where
-      last : (same : Bool) → Unless (coefficient (Some a) None p * form_part f (Some b)) (AreSymbols count (Some a) (Some b))
-          → Unless (if same then 0 else coefficient (Some a) None p * form_part f (Some b)) (AreSymbols count (Some a) (Some b))
-      last true has = inl refl
-      last false has = has
+module _ (count : ℕ) (p : List Term) (f : LinearForm) (bound : BoundFrom 0 count p) (entry : is_entry_form_of count f ≡ true)
+  where
+    twice_over : (a b : ℕ) → nat_le a b ≡ true → Unless (product_of p f (Some a, Some b)) (AreSymbols count (Some a) (Some b))
+    twice_over a b e =
+        let order : a ≤ b = leb-true _ _ e in
+        let P : Type 0 = AreSymbols count (Some a) (Some b) in
+        let one = unless_first (coefficient (Some a) (Some b) p) (form_part f None) P
+        (coefficient_over count 0 (Some a) (Some b) p bound) in
+        let two = unless_first (coefficient (Some b) None p) (form_part f (Some a)) P
+        (unless_so (coefficient (Some b) None p) (b < count) P (λ less. (order, less))
+        (coefficient_over count 0 (Some b) None p bound)) in
+        let three = unless_second (coefficient (Some a) None p) (form_part f (Some b)) P
+        (unless_so (form_part f (Some b)) (b < count) P (λ less. (order, less)) (part_over b count f entry)) in
+        let both = unless_sum (coefficient (Some a) (Some b) p * form_part f None)
+        (coefficient (Some b) None p * form_part f (Some a)) P one two in
+        unless_sum (coefficient (Some a) (Some b) p * form_part f None + coefficient (Some b) None p * form_part f (Some a))
+        (if nat_eq a b then 0 else coefficient (Some a) None p * form_part f (Some b)) P both (last (nat_eq a b) three)
+      where
+        last : (same : Bool) → Unless (coefficient (Some a) None p * form_part f (Some b)) (AreSymbols count (Some a) (Some b))
+            → Unless (if same then 0 else coefficient (Some a) None p * form_part f (Some b)) (AreSymbols count (Some a) (Some b))
+        last true has = inl refl
+        last false has = has
 
-  product_over : (s : Option ℕ × Option ℕ) → are_symbols s.0 s.1 ≡ true → Unless (product_of p f s) (AreSymbols count s.0 s.1)
-  product_over (None, None) are = inr tt
-  product_over (None, Some b) are = absurd (cc)
-  product_over (Some a, None) are =
-      unless_sum (coefficient (Some a) None p * form_part f None) (coefficient None None p * form_part f (Some a)) (a < count)
-      (unless_first (coefficient (Some a) None p) (form_part f None) (a < count) (coefficient_over count 0 (Some a) None p bound))
-      (unless_second (coefficient None None p) (form_part f (Some a)) (a < count) (part_over a count f entry))
-  product_over (Some a, Some b) are = twice_over a b (and_parts (nat_le a b) (nat_lt b 8) are).0
+    product_over : (s : Option ℕ × Option ℕ) → are_symbols s.0 s.1 ≡ true → Unless (product_of p f s) (AreSymbols count s.0 s.1)
+    product_over (None, None) are = inr tt
+    product_over (None, Some b) are = absurd (cc)
+    product_over (Some a, None) are =
+        unless_sum (coefficient (Some a) None p * form_part f None) (coefficient None None p * form_part f (Some a)) (a < count)
+        (unless_first (coefficient (Some a) None p) (form_part f None) (a < count)
+        (coefficient_over count 0 (Some a) None p bound))
+        (unless_second (coefficient None None p) (form_part f (Some a)) (a < count) (part_over a count f entry))
+    product_over (Some a, Some b) are = twice_over a b (and_parts (nat_le a b) (nat_lt b 8) are).0
 
 entry_terms : (count : ℕ) (ts : List (ℕ × ℤ)) → count ≤ 8 → list_all (is_entry_term count) ts ≡ true → are_entry_terms ts ≡ true
 entry_terms count [] few all = refl
@@ -249,12 +288,15 @@ scaled_ok p f s is = by_test (nat_eq (greatest_cubic p f) 0) refl
 
 pub product_made : (count : ℕ) (p : List Term) (f : LinearForm) (s : List Term) → count ≤ 8 → BoundFrom 0 count p
     → is_entry_form_of count f ≡ true → scaled p f ≡ Ok s
-    → BoundFrom 0 count s × ((values : List ℕ) → pos (at values s) ≡ pos (at values p) *ℤ value_at (λ n. slice_index_or values n 0) f)
+    → BoundFrom 0 count s × ((values : List ℕ)
+    → pos (at values s) ≡ pos (at values p) *ℤ value_at (λ n. slice_index_or values n 0) f)
 product_made count p f s few bound entry is =
     let no_cubic = scaled_ok p f s is in
     let made = within_ok (product p f) s no_cubic.1 in
     rw made.0 (
-      listed_over count (product p f) (λ place less. product_over count p f bound entry (symbols_at place) (symbols_good place less)) (below_limit (product p f) made.1),
+      listed_over count (product p f)
+          (λ place less. product_over count p f bound entry (symbols_at place) (symbols_good place less))
+          (below_limit (product p f) made.1),
       λ values. product_value values p f (wider count 0 p few bound) no_cubic.0 (entry_form count f few entry),
     )
 

@@ -1,7 +1,9 @@
 -- The name of each rule is read as that rule.
 use Rattle.std.proofs.Common.{◌≡◌, refl, Some}
 use Rattle.deriv_tree.specs.declared.rule.Rule.{Rule}
-use Rattle.deriv_tree.specs.declared.rule.Rule.TheVariants.{ELit, EVar, ELen, EOp, EAdd, ESub, EMulk, EMask, EShift, ERemk, EDivk, ECmp, ENot, EBoth, EEither, EWord, EByte, ECut, EGet, ETab, ERw, SNote, SLet, SPut, SMove, SIf, SFor, SMap, SFold}
+use Rattle.deriv_tree.specs.declared.rule.Rule.TheVariants.{ELit, EVar, ELen, EOp, EAdd, ESub, EMulk, EMask, EShift, ERemk, EDivk}
+use Rattle.deriv_tree.specs.declared.rule.Rule.TheVariants.{ECmp, ENot, EBoth, EEither, EWord, EByte, ECut, EGet, ETab, ERw}
+use Rattle.deriv_tree.specs.declared.rule.Rule.TheVariants.{SNote, SLet, SPut, SMove, SIf, SFor, SMap, SFold}
 use Rattle.deriv_tree.specs.Names.{name_of, rule_of}
 
 pub name_is_read : (rule : Rule) → rule_of (name_of rule) ≡ Some rule

@@ -3,7 +3,8 @@ use Rattle.std.proofs.Common.{◌≡◌, refl, sym, ◌∙◌, ap, ℕ, ◌^◌,
 use Rattle.std.specs.Option.{option_and_then, option_map}
 use Rattle.std.proofs.lemmas.Bool.{eqb-true}
 use Rattle.std.proofs.lemmas.Option.{none-some, same_Some}
-use Rattle.equations.specs.Equations.{any, at_any, among, sides, same_op, literal, at_literal, is_literal, is, exponent, power, byte, at_byte, word, at_word}
+use Rattle.equations.specs.Equations.{any, at_any, among, sides, same_op, literal, at_literal, is_literal, is, exponent, power}
+use Rattle.equations.specs.Equations.{byte, at_byte, word, at_word}
 use Rattle.equations.specs.laws.Powers.{exponent_is}
 use Rattle.model_syntax.specs.declared.expr.Expr.{Expr, Expr-F, out-Expr, roll-Expr, roll-out-Expr}
 use Rattle.model_syntax.specs.declared.expr.Expr.TheOpen as e

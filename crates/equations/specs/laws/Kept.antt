@@ -1,12 +1,15 @@
 -- Each equation keeps both laws, and so does a book of such equations. The laws of a trait are proved by what stands in
 -- `specs`, and so are these.
-use Rattle.std.proofs.Common.{◌≡◌, refl, sym, ◌∙◌, ap, subst, arith, ℕ, zero, suc, ◌%◌, ◌^◌, ◌<◌, ◌≤◌, Bool, true, List, [], ◌∷◌, Option, Some, None, Ok, if◌then◌else◌}
+use Rattle.std.proofs.Common.{◌≡◌, refl, sym, ◌∙◌, ap, subst, arith, ℕ, zero, suc, ◌%◌, ◌^◌, ◌<◌, ◌≤◌, Bool, true, List, [], ◌∷◌}
+use Rattle.std.proofs.Common.{Option, Some, None, Ok, if◌then◌else◌}
 use Rattle.std.specs.List.{slice_get}
 use Rattle.std.specs.Option.{option_and_then, option_map}
 use Rattle.std.proofs.lemmas.Option.{none-some, same_Some}
 use Rattle.equations.specs.Book.{SameMeaning, NoWorse, Laws}
-use Rattle.equations.specs.Equations.{Equation, sides, is_neutral, is_literal, literal, power, exchanged, grouped_right, grouped_left, left_alone, computed, unmasked, byte_of_masked, with_mask, word_of_byte}
-use Rattle.equations.specs.laws.Fits.{any_is, among_is, sides_are, byte_is, word_is, literal_of, literal_is, mapped, power_is, guarded}
+use Rattle.equations.specs.Equations.{Equation, sides, is_neutral, is_literal, literal, power, exchanged, grouped_right}
+use Rattle.equations.specs.Equations.{grouped_left, left_alone, computed, unmasked, byte_of_masked, with_mask, word_of_byte}
+use Rattle.equations.specs.laws.Fits.{any_is, among_is, sides_are, byte_is, word_is, literal_of, literal_is, mapped, power_is}
+use Rattle.equations.specs.laws.Fits.{guarded}
 use Rattle.equations.specs.laws.Words.{Commutes, Associates, neutral_word, byte_masks}
 use Rattle.model_syntax.specs.Environment.{Env}
 use Rattle.model_syntax.specs.Formed.{expr_formed, expr_formed_step}
@@ -21,7 +24,10 @@ use Rattle.model_syntax.specs.declared.expr.Expr.TheVariants.{Lit, Bin, ToWord, 
 use Rattle.model_syntax.specs.declared.expr.Op.{Op}
 use Rattle.model_syntax.specs.declared.expr.Op.TheVariants as op
 use Rattle.model_syntax.specs.declared.expr.Scalar.TheVariants.{Word}
-use Rattle.model_syntax.proofs.laws.Nodes.{fold_lit, IsWord, lit_typed, bin_typed, bin_parts, byte_typed, byte_parts, word_parts, eval_lit, eval_bin, eval_word, eval_byte, tables_lit, tables_bin, tables_word, tables_byte, IsOfParts, formed_of_parts, spellable_of_parts, Holds, sides_hold, bin_holds, lit_holds, byte_holds, word_holds}
+use Rattle.model_syntax.proofs.laws.Nodes.{fold_lit, IsWord, lit_typed, bin_typed, bin_parts, byte_typed, byte_parts, word_parts}
+use Rattle.model_syntax.proofs.laws.Nodes.{eval_lit, eval_bin, eval_word, eval_byte, tables_lit, tables_bin, tables_word}
+use Rattle.model_syntax.proofs.laws.Nodes.{tables_byte, IsOfParts, formed_of_parts, spellable_of_parts, Holds, sides_hold}
+use Rattle.model_syntax.proofs.laws.Nodes.{bin_holds, lit_holds, byte_holds, word_holds}
 use Rattle.model_syntax.proofs.laws.Numbers.{apply_word}
 use Rattle.model_syntax.proofs.laws.Words.{word_value}
 

@@ -26,13 +26,15 @@ use Rattle.expr_rules.proofs.Kids.{Pair}
 use Rattle.expr_rules.proofs.Sums.{value_sum}
 use Rattle.expr_rules.proofs.laws.Yields.{yields_shown, yields_made}
 
-pub sound : (ps : List Param) (scope : Scope) (f g : Env → ℕ) (before : Context) (pq : ExprOut × ExprOut) (mid : Context) → Pair ps scope f g Word Word before pq mid → (certs : List Cert) (at : ℕ)
+pub sound : (ps : List Param) (scope : Scope) (f g : Env → ℕ) (before : Context) (pq : ExprOut × ExprOut) (mid : Context)
+    → Pair ps scope f g Word Word before pq mid → (certs : List Cert) (at : ℕ)
     → Yields (ExprDone ps scope (λ env. apply op.Add (f env) (g env)) Word before) (after certs at pq.0 pq.1 mid)
 sound ps scope f g before pq mid k certs at =
     yields_shown (ExprDone ps scope sem Word before) mid at certs goal (λ _. made at form >>= (λ h. give (plain code h)))
     (λ closes. yields_made (ExprDone ps scope sem Word before) mid at form (λ h. give (plain code h))
     (came_done (And (Of f Word pq.0) (Of g Word pq.1)) ps scope before mid k.came sem Word (plain code form)
-    (plain_kid before mid code form (known_plus (length mid.tops) pq.0.form pq.1.form k.one.known k.two.known) (λ xs has. locals_bin xs bop.Add pq.0.code pq.1.code (k.one.locals xs has) (k.two.locals xs has)))
+    (plain_kid before mid code form (known_plus (length mid.tops) pq.0.form pq.1.form k.one.known k.two.known)
+    (λ xs has. locals_bin xs bop.Add pq.0.code pq.1.code (k.one.locals xs has) (k.two.locals xs has)))
     (λ call v env mem vars fits r.
     let shown : pos 0 ≤ℤ value_at v goal = closes v fits.holds in
     let value_is = value_sum v (pos most) ((negsuc 0, pq.0.form) ∷ (negsuc 0, pq.1.form) ∷ []) in
@@ -40,7 +42,9 @@ sound ps scope f g before pq mid k certs at =
     let two = r.1.form in
     let small : f env + g env ≤ 4294967295 = omega (arith, ints, shown, value_is, one, two) in
     let whole = value_plus v pq.0.form pq.1.form in
-    plain_right (sem env) Word code form v mem vars (value_bin mem vars bop.Add pq.0.code pq.1.code (f env) (g env) r.0.value r.1.value) (omega (arith, small)) (omega (arith, ints, whole, one, two, small)))))
+    plain_right (sem env) Word code form v mem vars
+    (value_bin mem vars bop.Add pq.0.code pq.1.code (f env) (g env) r.0.value r.1.value) (omega (arith, small))
+    (omega (arith, ints, whole, one, two, small)))))
   where
     sem : Env → ℕ
     sem env = apply op.Add (f env) (g env)

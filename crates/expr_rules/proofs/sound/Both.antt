@@ -23,12 +23,14 @@ use Rattle.expr_rules.proofs.Fresh.{next_known, none_known, none_hold}
 use Rattle.expr_rules.proofs.Kids.{Pair}
 use Rattle.expr_rules.proofs.laws.Yields.{yields_fresh}
 
-pub sound : (ps : List Param) (scope : Scope) (f g : Env → ℕ) (before : Context) (pq : ExprOut × ExprOut) (mid : Context) → Pair ps scope f g Flag Flag before pq mid → (at : ℕ)
+pub sound : (ps : List Param) (scope : Scope) (f g : Env → ℕ) (before : Context) (pq : ExprOut × ExprOut) (mid : Context)
+    → Pair ps scope f g Flag Flag before pq mid → (at : ℕ)
     → Yields (ExprDone ps scope (λ env. flag (is_true (f env) && is_true (g env))) Flag before) (after at pq.0 pq.1 mid)
 sound ps scope f g before pq mid k at =
     yields_fresh (ExprDone ps scope sem Flag before) mid at 1 (λ s. give (out s))
     (came_done (WithNumber R ps scope before mid k.came sem) ps scope before (with_top 1 mid)
-    (came_fresh R ps scope before mid k.came 1 sem (λ v env mem vars r. flag_small (is_true (f env) && is_true (g env)))) sem Flag (out s)
+    (came_fresh R ps scope before mid k.came 1 sem (λ v env mem vars r. flag_small (is_true (f env) && is_true (g env)))) sem Flag
+    (out s)
     (record {
       known = next_known mid.tops 1;
       yes_known = each_joined (Known (length (with_top 1 mid).tops)) pq.0.yes pq.1.yes one.yes_known two.yes_known;
@@ -36,10 +38,13 @@ sound ps scope f g before pq mid k at =
       locals = λ xs has. locals_bin xs bop.And pq.0.code pq.1.code (k.one.locals xs has) (k.two.locals xs has);
     })
     (λ call v env mem vars fits r. record {
-      value = value_bin mem vars bop.And pq.0.code pq.1.code (f env) (g env) r.0.0.value r.0.1.value ∙ ap Some (and_flags (f env) (g env) r.0.0.small r.0.1.small);
+      value = value_bin mem vars bop.And pq.0.code pq.1.code (f env) (g env) r.0.0.value r.0.1.value
+          ∙ ap Some (and_flags (f env) (g env) r.0.0.small r.0.1.small);
       small = flag_small (is_true (f env) && is_true (g env));
       form = value_symbol v (length mid.tops) ∙ ap pos r.1;
-      yes = λ e. (let sides = and_parts (is_true (f env)) (is_true (g env)) (sym (flag_true (is_true (f env) && is_true (g env))) ∙ e) in each_joined (λ h. pos 0 ≤ℤ value_at v h) pq.0.yes pq.1.yes (r.0.0.yes sides.0) (r.0.1.yes sides.1));
+      yes = λ e. (let sides = and_parts (is_true (f env)) (is_true (g env))
+          (sym (flag_true (is_true (f env) && is_true (g env))) ∙ e) in
+          each_joined (λ h. pos 0 ≤ℤ value_at v h) pq.0.yes pq.1.yes (r.0.0.yes sides.0) (r.0.1.yes sides.1));
       no = λ e. none_hold v;
     }))
   where

@@ -1,5 +1,6 @@
 -- e-divk is sound: the divisor times the quotient is at most the dividend, and what is left is less than the divisor.
-use Rattle.std.proofs.Common.{◌≡◌, refl, ◌∙◌, ap, arith, ℕ, ◌-◌, ◌*◌, ◌/◌, ◌≤◌, Bool, true, false, List, [], ◌∷◌, length, Option, Some, None, nat_abs, ℤ, pos, negsuc, neg_ℤ, ◌*ℤ◌, ◌≤ℤ◌}
+use Rattle.std.proofs.Common.{◌≡◌, refl, ◌∙◌, ap, arith, ℕ, ◌-◌, ◌*◌, ◌/◌, ◌≤◌, Bool, true, false, List, [], ◌∷◌, length, Option}
+use Rattle.std.proofs.Common.{Some, None, nat_abs, ℤ, pos, negsuc, neg_ℤ, ◌*ℤ◌, ◌≤ℤ◌}
 use Rattle.std.specs.Int.Signed.{le_z}
 use Rattle.std.proofs.lemmas.Int.{ints}
 use Rattle.rup_base.specs.Word.{quotient}
@@ -67,7 +68,8 @@ by_number f n is = by (number_of f) refl where
       }
 
 by_shift : (f : LinearForm) (n : ℕ) → divisor op.Shr f ≡ Some n → Divides op.Shr f n
-by_shift f n is = let shift : IsPower f n = power_is f n is in record { some = shift.some; quotient_of = λ v a b form. ap (λ (z : ℕ). a / z) (shift.shift_is v b form) }
+by_shift f n is = let shift : IsPower f n = power_is f n is in
+    record { some = shift.some; quotient_of = λ v a b form. ap (λ (z : ℕ). a / z) (shift.shift_is v b form) }
 
 none : {A : Type 0} {n : ℕ} → ◌≡◌ {A = Option ℕ} None (Some n) → A
 none bad = absurd (cc)
@@ -95,13 +97,16 @@ room n f s = sum_of (pos (n - 1)) ((pos n, s) ∷ (negsuc 0, f) ∷ [])
 
 known_sum : (top : ℕ) (c j k : ℤ) (f g : LinearForm) → Known top f → Known top g → Known top (sum_of c ((j, f) ∷ (k, g) ∷ []))
 known_sum top c j k f g one two =
-    known_plus top (times j f) (plus (times k g) (constant c)) (known_times top j f one) (known_plus top (times k g) (constant c) (known_times top k g two) (known_constant top c))
+    known_plus top (times j f) (plus (times k g) (constant c)) (known_times top j f one)
+    (known_plus top (times k g) (constant c) (known_times top k g two) (known_constant top c))
 
-module _ (v : ℕ → ℕ) (f s : LinearForm) (m n : ℕ) (some : 1 ≤ n) (first : value_at v f ≡ pos m) (second : value_at v s ≡ pos (m / n)) where
+module _ (v : ℕ → ℕ) (f s : LinearForm) (m n : ℕ) (some : 1 ≤ n) (first : value_at v f ≡ pos m)
+    (second : value_at v s ≡ pos (m / n)) where
   remainder_holds : pos 0 ≤ℤ value_at v (remainder n f s)
   remainder_holds =
       let whole = value_sum v (pos 0) ((pos 1, f) ∷ (neg_ℤ (pos n), s) ∷ []) in
-      let product : neg_ℤ (pos n) *ℤ value_at v s ≡ neg_ℤ (pos (n * (m / n))) = ap (λ (z : ℤ). neg_ℤ (pos n) *ℤ z) second ∙ neg_product n (m / n) in
+      let product : neg_ℤ (pos n) *ℤ value_at v s ≡ neg_ℤ (pos (n * (m / n))) = ap (λ (z : ℤ). neg_ℤ (pos n) *ℤ z) second
+      ∙ neg_product n (m / n) in
       let less = quotient_times m n some in
       omega (arith, ints, whole, product, first, less)
 
@@ -112,7 +117,8 @@ module _ (v : ℕ → ℕ) (f s : LinearForm) (m n : ℕ) (some : 1 ≤ n) (firs
       let less = quotient_room m n some in
       omega (arith, ints, whole, product, first, less)
 
-module _ (ps : List Param) (scope : Scope) (f g : Env → ℕ) (before : Context) (pq : ExprOut × ExprOut) (mid : Context) (k : Pair ps scope f g Word Word before pq mid) (at : ℕ) (o : Op) where
+module _ (ps : List Param) (scope : Scope) (f g : Env → ℕ) (before : Context) (pq : ExprOut × ExprOut) (mid : Context)
+    (k : Pair ps scope f g Word Word before pq mid) (at : ℕ) (o : Op) where
   abbrev R : Fact
   R = And (Of f Word pq.0) (Of g Word pq.1)
 
@@ -143,37 +149,53 @@ module _ (ps : List Param) (scope : Scope) (f g : Env → ℕ) (before : Context
     with_room = with_fact (room n pq.0.form s) with_remainder
 
     dividend_known : Known top pq.0.form
-    dividend_known = known_more (length mid.tops) top pq.0.form (more_tops mid (with_top (most / n) mid) (extends_top mid (most / n))) k.one.known
+    dividend_known = known_more (length mid.tops) top pq.0.form
+        (more_tops mid (with_top (most / n) mid) (extends_top mid (most / n))) k.one.known
 
     quotient_known : Known top s
     quotient_known = next_known mid.tops (most / n)
 
     one : Came Numbered ps scope before (with_top (most / n) mid)
-    one = came_fresh R ps scope before mid k.came (most / n) sem (λ v env mem vars r. (let same = is v env r.1.form in let small = quotient_most (f env) n d.some most r.0.small in omega (arith, same, small)))
+    one = came_fresh R ps scope before mid k.came (most / n) sem
+        (λ v env mem vars r. (let same = is v env r.1.form in let small = quotient_most (f env) n d.some most r.0.small in
+        omega (arith, same, small)))
 
     two : Came Numbered ps scope before with_remainder
-    two = came_fact Numbered ps scope before (with_top (most / n) mid) one (remainder n pq.0.form s) (known_sum top (pos 0) (pos 1) (neg_ℤ (pos n)) pq.0.form s dividend_known quotient_known)
-        (λ v env mem vars r. remainder_holds v pq.0.form s (f env) n d.some r.0.0.form (value_symbol v (length mid.tops) ∙ ap pos (r.1 ∙ is v env r.0.1.form)))
+    two = came_fact Numbered ps scope before (with_top (most / n) mid) one (remainder n pq.0.form s)
+        (known_sum top (pos 0) (pos 1) (neg_ℤ (pos n)) pq.0.form s dividend_known quotient_known)
+        (λ v env mem vars r. remainder_holds v pq.0.form s (f env) n d.some r.0.0.form
+        (value_symbol v (length mid.tops) ∙ ap pos (r.1 ∙ is v env r.0.1.form)))
 
     three : Came Numbered ps scope before with_room
-    three = came_fact Numbered ps scope before with_remainder two (room n pq.0.form s) (known_sum top (pos (n - 1)) (pos n) (negsuc 0) s pq.0.form quotient_known dividend_known)
-        (λ v env mem vars r. room_holds v pq.0.form s (f env) n d.some r.0.0.form (value_symbol v (length mid.tops) ∙ ap pos (r.1 ∙ is v env r.0.1.form)))
+    three = came_fact Numbered ps scope before with_remainder two (room n pq.0.form s)
+        (known_sum top (pos (n - 1)) (pos n) (negsuc 0) s pq.0.form quotient_known dividend_known)
+        (λ v env mem vars r. room_holds v pq.0.form s (f env) n d.some r.0.0.form
+        (value_symbol v (length mid.tops) ∙ ap pos (r.1 ∙ is v env r.0.1.form)))
 
-    divided : Yields (ExprDone ps scope sem Word before) ((fresh at (most / n) >>= (λ s. fact at (remainder n pq.0.form s) >>= (λ _. fact at (room n pq.0.form s) >>= (λ _. give (plain code s))))) mid)
+    divided : Yields (ExprDone ps scope sem Word before)
+        ((fresh at (most / n) >>= (λ s. fact at (remainder n pq.0.form s)
+        >>= (λ _. fact at (room n pq.0.form s) >>= (λ _. give (plain code s))))) mid)
     divided =
-        yields_fresh (ExprDone ps scope sem Word before) mid at (most / n) (λ s. fact at (remainder n pq.0.form s) >>= (λ _. fact at (room n pq.0.form s) >>= (λ _. give (plain code s))))
-        (yields_fact (ExprDone ps scope sem Word before) (with_top (most / n) mid) at (remainder n pq.0.form s) (λ _. fact at (room n pq.0.form s) >>= (λ _. give (plain code s)))
+        yields_fresh (ExprDone ps scope sem Word before) mid at (most / n)
+        (λ s. fact at (remainder n pq.0.form s) >>= (λ _. fact at (room n pq.0.form s) >>= (λ _. give (plain code s))))
+        (yields_fact (ExprDone ps scope sem Word before) (with_top (most / n) mid) at (remainder n pq.0.form s)
+        (λ _. fact at (room n pq.0.form s) >>= (λ _. give (plain code s)))
         (yields_fact (ExprDone ps scope sem Word before) with_remainder at (room n pq.0.form s) (λ _. give (plain code s))
         (came_done Numbered ps scope before with_room three sem Word (plain code s)
-        (plain_kid before with_room code s quotient_known (λ xs has. locals_bin xs (code_of o) pq.0.code pq.1.code (k.one.locals xs has) (k.two.locals xs has)))
+        (plain_kid before with_room code s quotient_known
+        (λ xs has. locals_bin xs (code_of o) pq.0.code pq.1.code (k.one.locals xs has) (k.two.locals xs has)))
         (λ call v env mem vars fits r.
         let same = is v env r.0.1.form in
         let less = quotient_less (f env) n d.some in
         let small = r.0.0.small in
-        plain_right (sem env) Word code s v mem vars (value_bin mem vars (code_of o) pq.0.code pq.1.code (f env) (g env) r.0.0.value r.0.1.value ∙ ap Some (same_operation o (f env) (g env)))
+        plain_right (sem env) Word code s v mem vars
+        (value_bin mem vars (code_of o) pq.0.code pq.1.code (f env) (g env) r.0.0.value r.0.1.value
+        ∙ ap Some (same_operation o (f env) (g env)))
         (omega (arith, same, less, small)) (value_symbol v (length mid.tops) ∙ ap pos r.1)))))
 
   pub sound : Yields (ExprDone ps scope sem Word before) (after at o pq.0 pq.1 mid)
   sound =
-      yields_found (ExprDone ps scope sem Word before) mid (divisor o pq.1.form) at 4 (λ n. fresh at (most / n) >>= (λ s. fact at (remainder n pq.0.form s) >>= (λ _. fact at (room n pq.0.form s) >>= (λ _. give (plain code s)))))
+      yields_found (ExprDone ps scope sem Word before) mid (divisor o pq.1.form) at 4
+      (λ n. fresh at (most / n) >>= (λ s. fact at (remainder n pq.0.form s)
+      >>= (λ _. fact at (room n pq.0.form s) >>= (λ _. give (plain code s)))))
       (λ n is. divided n (divides o pq.1.form n is))

@@ -1,5 +1,6 @@
 -- e-get is sound: the element stands at its address, which is a multiple of its size.
-use Rattle.std.proofs.Common.{◌≡◌, sym, ◌∙◌, ap, subst, arith, ℕ, ◌+◌, ◌*◌, ◌%◌, ◌^◌, ◌<◌, ◌≤◌, inl, inr, List, [], ◌∷◌, length, get_or, Option, Some, Ok, pos, negsuc, ◌≤ℤ◌}
+use Rattle.std.proofs.Common.{◌≡◌, sym, ◌∙◌, ap, subst, arith, ℕ, ◌+◌, ◌*◌, ◌%◌, ◌^◌, ◌<◌, ◌≤◌, inl, inr, List, [], ◌∷◌, length}
+use Rattle.std.proofs.Common.{get_or, Option, Some, Ok, pos, negsuc, ◌≤ℤ◌}
 use Rattle.std.proofs.lemmas.Int.{ints}
 use Rattle.std.proofs.lemmas.Option.{slice_get-get_or}
 use Rattle.rup_base.specs.declared.arg.Arg.{Arg}
@@ -49,7 +50,8 @@ record Placed (start bytes i : ℕ) : Type 0 where
   pub small : start + bytes * i < 2 ^ 32
   pub aligned : (start + bytes * i) % bytes ≡ 0
 
-placed : (start bytes i n whole : ℕ) → IsSize bytes → start % bytes ≡ 0 → whole ≡ bytes * n → start + whole ≤ 2 ^ 32 → i < n → Placed start bytes i
+placed : (start bytes i n whole : ℕ) → IsSize bytes → start % bytes ≡ 0 → whole ≡ bytes * n → start + whole ≤ 2 ^ 32 → i < n
+    → Placed start bytes i
 placed start bytes i n whole (inl one) aligned size ends less =
     let size_one : whole ≡ 1 * n = rw one at size in
     rw one (record { small = omega (arith, size_one, ends, less); aligned = omega arith })
@@ -59,21 +61,28 @@ placed start bytes i n whole (inr four) aligned size ends less =
     rw four (record { small = omega (arith, size_four, ends, less); aligned = omega (arith, start_aligned) })
 
 -- what is loaded of an array
-read : (call : Call) (v : ℕ → ℕ) (k : Clause) (found : Option Arg) (i : ℕ) (p : ExprOut) (mem : Bytes) (vars : Vars) → ClauseFits call v k found mem (local_at vars) → i < length (elements found)
-    → value p.code mem vars ≡ Some i → (value (code k p.code) mem vars ≡ Some (get_or (elements found) i 0)) × (get_or (elements found) i 0 ≤ element_top k.size)
+read : (call : Call) (v : ℕ → ℕ) (k : Clause) (found : Option Arg) (i : ℕ) (p : ExprOut) (mem : Bytes) (vars : Vars)
+    → ClauseFits call v k found mem (local_at vars) → i < length (elements found)
+    → value p.code mem vars ≡ Some i → (value (code k p.code) mem vars ≡ Some (get_or (elements found) i 0))
+    × (get_or (elements found) i 0 ≤ element_top k.size)
 read call v k found i p mem vars here less index =
     let start : ℕ = call.pointers k.param in
     let n : ℕ = get_or (elements found) i 0 in
     let bytes : IsSize k.size = size_is k.size found here.array in
-    let place : Placed start k.size i = placed start k.size i (length (elements found)) (length (array_bytes found)) bytes here.aligned (bytes_length k.size found here.array) here.ends less in
+    let place : Placed start k.size i =
+    placed start k.size i (length (elements found)) (length (array_bytes found)) bytes here.aligned
+    (bytes_length k.size found here.array) here.ends less in
     let stands = element_read k.size found mem start i n here.array here.stands (slice_get-get_or (elements found) i 0 less) in (
-      value_load mem vars (size_of k.size) (address k p.code) (start + k.size * i) (value_address mem vars k start i p.code bytes here.pointer place.small index)
+      value_load mem vars (size_of k.size) (address k p.code) (start + k.size * i)
+          (value_address mem vars k start i p.code bytes here.pointer place.small index)
           ∙ loaded_element k.size (start + k.size * i) n mem bytes place.aligned stands.1 stands.0,
       stands.1,
     )
 
-pub sound : (ps : List Param) (scope : Scope) (f : Env → ℕ) (before : Context) (p : ExprOut) (mid : Context) → ExprDone ps scope f Word before p mid → (certs : List Cert) (at : ℕ) (a : Name) (t : Scalar)
-    → element_in (look_up scope a) ≡ Ok t → Yields (ExprDone ps scope (λ env. get_or (elements (value_of env a)) (f env) 0) t before) (after certs at a p mid)
+pub sound : (ps : List Param) (scope : Scope) (f : Env → ℕ) (before : Context) (p : ExprOut) (mid : Context)
+    → ExprDone ps scope f Word before p mid → (certs : List Cert) (at : ℕ) (a : Name) (t : Scalar)
+    → element_in (look_up scope a) ≡ Ok t
+    → Yields (ExprDone ps scope (λ env. get_or (elements (value_of env a)) (f env) 0) t before) (after certs at a p mid)
 sound ps scope f before p mid d certs at a t typed =
     yields_found (ExprDone ps scope sem t before) mid (own mid a) at 4 (λ k. element certs at k p) (λ k owned. by k owned)
   where
@@ -82,9 +91,13 @@ sound ps scope f before p mid d certs at a t typed =
 
     by : (k : Clause) → own mid a ≡ Some k → Yields (ExprDone ps scope sem t before) (element certs at k p mid)
     by k owned =
-        yields_shown (ExprDone ps scope sem t before) mid at certs goal (λ _. fresh_result at (element_top k.size) (code k p.code))
-        (λ closes. read_done (Of f Word p) ps scope before mid (came_one ps scope f Word before mid p d) sem t at (element_top k.size) (code k p.code) (top_is t k.size size)
-        (λ xs has. locals_load xs (size_of k.size) (address k p.code) (locals_address xs k p.code ((locals_back before mid xs d.extends has).pointers stands.place k stands.at) (d.locals xs has)))
+        yields_shown (ExprDone ps scope sem t before) mid at certs goal
+        (λ _. fresh_result at (element_top k.size) (code k p.code))
+        (λ closes. read_done (Of f Word p) ps scope before mid (came_one ps scope f Word before mid p d) sem t at
+        (element_top k.size) (code k p.code) (top_is t k.size size)
+        (λ xs has. locals_load xs (size_of k.size) (address k p.code)
+        (locals_address xs k p.code ((locals_back before mid xs d.extends has).pointers stands.place k stands.at)
+        (d.locals xs has)))
         (λ call v env mem vars fits r.
         let here : ClauseFits call v k (value_of env a) mem (local_at vars) = fits.clauses a k owned in
         let shown : pos 0 ≤ℤ value_at v goal = closes v fits.holds in
@@ -106,6 +119,7 @@ sound ps scope f before p mid d certs at a t typed =
         size =
             let name : k.name ≡ a = same_is k.name a stands.passes in
             let element = element_is (look_up scope a) t typed in
-            let both : Some (Many array.element array.len) ≡ Some (Many t element.0) = sym array.type ∙ ap (look_up scope) name ∙ element.1 in
+            let both : Some (Many array.element array.len) ≡ Some (Many t element.0) = sym array.type ∙ ap (look_up scope) name
+            ∙ element.1 in
             let same : array.element ≡ t = cc in
             subst (λ (u : Scalar). element_size u ≡ Some k.size) same array.size

@@ -42,7 +42,8 @@ length_code k e is = by k.length_local refl where
 size_is : (ns : List ℕ) → length ns ≤ 4294967295 → size ns ≡ length ns
 size_is ns few = omega (arith, few)
 
-pub sound : (ps : List Param) (scope : Scope) (c : Context) → Came Nothing ps scope c c → (at : ℕ) (a : Name) (k : Clause) → own c a ≡ Some k
+pub sound : (ps : List Param) (scope : Scope) (c : Context) → Came Nothing ps scope c c → (at : ℕ) (a : Name) (k : Clause)
+    → own c a ≡ Some k
     → Yields (ExprDone ps scope (λ env. size (elements (value_of env a))) Word c) (after at k c)
 sound ps scope c came at a k owned =
     yields_found (ExprDone ps scope sem Word c) c (code k) at 4 (λ e. give (plain e k.length)) (λ e is. by e (length_code k e is))
@@ -57,21 +58,27 @@ sound ps scope c came at a k owned =
     by e (local l is made) =
         rw made
         (came_done Nothing ps scope c c came sem Word (plain (b.Var l) k.length)
-        (plain_kid c c (b.Var l) k.length (came.consistent.lengths_known stands.place k stands.at) (λ xs has. locals_var xs l (has.lengths stands.place l k stands.at is)))
+        (plain_kid c c (b.Var l) k.length (came.consistent.lengths_known stands.place k stands.at)
+        (λ xs has. locals_var xs l (has.lengths stands.place l k stands.at is)))
         (λ call v env mem vars fits r.
         let here : ClauseFits call v k (value_of env a) mem (local_at vars) = fits.clauses a k owned in
-        let many : size (elements (value_of env a)) ≡ length (elements (value_of env a)) = size_is (elements (value_of env a)) here.few in
+        let many : size (elements (value_of env a)) ≡ length (elements (value_of env a)) =
+        size_is (elements (value_of env a)) here.few in
         let few = here.few in
-        plain_right (sem env) Word (b.Var l) k.length v mem vars (value_var mem vars l ∙ here.length_local l is ∙ ap Some (sym many)) (omega (arith, few, many)) (here.form ∙ ap pos (sym many))))
+        plain_right (sem env) Word (b.Var l) k.length v mem vars
+        (value_var mem vars l ∙ here.length_local l is ∙ ap Some (sym many)) (omega (arith, few, many))
+        (here.form ∙ ap pos (sym many))))
     by e (number n range made) =
         rw made
         (came_done Nothing ps scope c c came sem Word (plain (b.Lit n) k.length)
         (plain_kid c c (b.Lit n) k.length (came.consistent.lengths_known stands.place k stands.at) (λ xs has. locals_lit xs n))
         (λ call v env mem vars fits r.
         let here : ClauseFits call v k (value_of env a) mem (local_at vars) = fits.clauses a k owned in
-        let many : size (elements (value_of env a)) ≡ length (elements (value_of env a)) = size_is (elements (value_of env a)) here.few in
+        let many : size (elements (value_of env a)) ≡ length (elements (value_of env a)) =
+        size_is (elements (value_of env a)) here.few in
         let few = here.few in
         let value_is : value_at v k.length ≡ pos n = range.value_is v in
         let form = here.form in
         let same : n ≡ size (elements (value_of env a)) = omega (arith, ints, value_is, form, many) in
-        plain_right (sem env) Word (b.Lit n) k.length v mem vars (value_lit mem vars n ∙ ap Some same) (omega (arith, few, many)) (here.form ∙ ap pos (sym many))))
+        plain_right (sem env) Word (b.Lit n) k.length v mem vars (value_lit mem vars n ∙ ap Some same) (omega (arith, few, many))
+        (here.form ∙ ap pos (sym many))))

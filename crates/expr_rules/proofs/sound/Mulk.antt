@@ -34,21 +34,28 @@ pub record Multiplies (factor : ℤ) (op : BOp) (m n result : ℕ) : Type 0 wher
   pub wraps : result ≡ m * number % 2 ^ 32
   pub operation_is : bed.apply op m n ≡ result
 
-module _ (ps : List Param) (scope : Scope) (f g : Env → ℕ) (before : Context) (pq : ExprOut × ExprOut) (mid : Context) (k : Pair ps scope f g Word Word before pq mid) (certs : List Cert) (at : ℕ) where
-  pub multiple_sound : (factor : ℤ) (op : BOp) (sem : Env → ℕ) → ((v : ℕ → ℕ) (env : Env) → value_at v pq.1.form ≡ pos (g env) → Multiplies factor op (f env) (g env) (sem env))
+module _ (ps : List Param) (scope : Scope) (f g : Env → ℕ) (before : Context) (pq : ExprOut × ExprOut) (mid : Context)
+    (k : Pair ps scope f g Word Word before pq mid) (certs : List Cert) (at : ℕ) where
+  pub multiple_sound : (factor : ℤ) (op : BOp) (sem : Env → ℕ)
+      → ((v : ℕ → ℕ) (env : Env) → value_at v pq.1.form ≡ pos (g env) → Multiplies factor op (f env) (g env) (sem env))
       → Yields (ExprDone ps scope sem Word before) (multiple certs at factor op pq.0 pq.1 mid)
   multiple_sound factor op sem is =
       yields_shown (ExprDone ps scope sem Word before) mid at certs goal (λ _. made at form >>= (λ h. give (plain code h)))
       (λ closes. yields_made (ExprDone ps scope sem Word before) mid at form (λ h. give (plain code h))
       (came_done (And (Of f Word pq.0) (Of g Word pq.1)) ps scope before mid k.came sem Word (plain code form)
-      (plain_kid before mid code form (known_times (length mid.tops) factor pq.0.form k.one.known) (λ xs has. locals_bin xs op pq.0.code pq.1.code (k.one.locals xs has) (k.two.locals xs has)))
+      (plain_kid before mid code form (known_times (length mid.tops) factor pq.0.form k.one.known)
+      (λ xs has. locals_bin xs op pq.0.code pq.1.code (k.one.locals xs has) (k.two.locals xs has)))
       (λ call v env mem vars fits r.
       let here : Multiplies factor op (f env) (g env) (sem env) = is v env r.1.form in
-      let small : here.number * f env ≤ 4294967295 = multiple_small v pq.0.form (f env) here.number r.0.form factor here.factor_is (closes v fits.holds) in
-      let value_is : value_at v form ≡ pos (here.number * f env) = multiple_value v pq.0.form (f env) here.number r.0.form factor here.factor_is in
+      let small : here.number * f env ≤ 4294967295 =
+      multiple_small v pq.0.form (f env) here.number r.0.form factor here.factor_is (closes v fits.holds) in
+      let value_is : value_at v form
+      ≡ pos (here.number * f env) = multiple_value v pq.0.form (f env) here.number r.0.form factor here.factor_is in
       let wraps = here.wraps in
       let whole : sem env ≡ here.number * f env = omega (arith, small, wraps) in
-      plain_right (sem env) Word code form v mem vars (value_bin mem vars op pq.0.code pq.1.code (f env) (g env) r.0.value r.1.value ∙ ap Some here.operation_is) (omega (arith, small, whole)) (value_is ∙ ap pos (sym whole)))))
+      plain_right (sem env) Word code form v mem vars
+      (value_bin mem vars op pq.0.code pq.1.code (f env) (g env) r.0.value r.1.value ∙ ap Some here.operation_is)
+      (omega (arith, small, whole)) (value_is ∙ ap pos (sym whole)))))
     where
       goal : LinearForm
       goal = sum_of (pos most) ((neg_ℤ factor, pq.0.form) ∷ [])
@@ -61,8 +68,15 @@ module _ (ps : List Param) (scope : Scope) (f g : Env → ℕ) (before : Context
 
   pub sound : Yields (ExprDone ps scope (λ env. apply op.Mul (f env) (g env)) Word before) (after certs at pq.0 pq.1 mid)
   sound =
-      yields_found (ExprDone ps scope sem Word before) mid (number_of pq.1.form) at 4 (λ factor. multiple certs at factor bop.Mul pq.0 pq.1)
-      (λ factor is. multiple_sound factor bop.Mul sem (λ v env form. record { number = g env; factor_is = sym (number_value pq.1.form factor is v) ∙ form; wraps = refl; operation_is = refl }))
+      yields_found (ExprDone ps scope sem Word before) mid (number_of pq.1.form) at 4
+      (λ factor. multiple certs at factor bop.Mul pq.0 pq.1)
+      (λ factor is. multiple_sound factor bop.Mul sem
+      (λ v env form. record {
+        number = g env;
+        factor_is = sym (number_value pq.1.form factor is v) ∙ form;
+        wraps = refl;
+        operation_is = refl;
+      }))
     where
       sem : Env → ℕ
       sem env = apply op.Mul (f env) (g env)

@@ -1,5 +1,6 @@
 -- e-not is sound: the facts of the flag that is true are those of the other one where it is false.
-use Rattle.std.proofs.Common.{◌≡◌, refl, ◌∙◌, ap, arith, ℕ, zero, suc, ◌-◌, ◌≤◌, nat_eq, true, false, not, List, [], ◌∷◌, length, Some, pos, negsuc}
+use Rattle.std.proofs.Common.{◌≡◌, refl, ◌∙◌, ap, arith, ℕ, zero, suc, ◌-◌, ◌≤◌, nat_eq, true, false, not, List, [], ◌∷◌, length}
+use Rattle.std.proofs.Common.{Some, pos, negsuc}
 use Rattle.std.proofs.lemmas.Int.{ints}
 use Rattle.side_certs.specs.LinearForm.{LinearForm}
 use Rattle.model_syntax.specs.declared.expr.Scalar.TheVariants.{Flag}
@@ -32,7 +33,8 @@ other zero small = record { code = refl; sum = refl; yes = λ e. refl; no = λ e
 other (suc zero) small = record { code = refl; sum = refl; yes = λ e. absurd (let bad : false ≡ true = e in cc); no = λ e. refl }
 other (suc (suc n)) small = absurd (omega (arith, small))
 
-pub sound : (ps : List Param) (scope : Scope) (f : Env → ℕ) (before : Context) (p : ExprOut) (mid : Context) → ExprDone ps scope f Flag before p mid → (at : ℕ)
+pub sound : (ps : List Param) (scope : Scope) (f : Env → ℕ) (before : Context) (p : ExprOut) (mid : Context)
+    → ExprDone ps scope f Flag before p mid → (at : ℕ)
     → Yields (ExprDone ps scope (λ env. flag (not (is_true (f env)))) Flag before) (after at p mid)
 sound ps scope f before p mid d at =
     yields_made (ExprDone ps scope sem Flag before) mid at form (λ h. give (out h))

@@ -23,13 +23,16 @@ use Rattle.expr_rules.proofs.Kids.{Pair}
 use Rattle.expr_rules.proofs.Sums.{NumberIn, number_in_is}
 use Rattle.expr_rules.proofs.laws.Yields.{yields_found}
 
-pub sound : (ps : List Param) (scope : Scope) (f g : Env → ℕ) (before : Context) (pq : ExprOut × ExprOut) (mid : Context) → Pair ps scope f g Word Word before pq mid → (at : ℕ)
+pub sound : (ps : List Param) (scope : Scope) (f g : Env → ℕ) (before : Context) (pq : ExprOut × ExprOut) (mid : Context)
+    → Pair ps scope f g Word Word before pq mid → (at : ℕ)
     → Yields (ExprDone ps scope (λ env. apply op.Remu (f env) (g env)) Word before) (after at pq.0 pq.1 mid)
 sound ps scope f g before pq mid k at =
-    yields_found (ExprDone ps scope sem Word before) mid (number_in 1 most pq.1.form) at 4 (λ n. fresh at (n - 1) >>= (λ s. fact at (minus pq.0.form s) >>= (λ _. give (plain code s))))
+    yields_found (ExprDone ps scope sem Word before) mid (number_in 1 most pq.1.form) at 4
+    (λ n. fresh at (n - 1) >>= (λ s. fact at (minus pq.0.form s) >>= (λ _. give (plain code s))))
     (λ n is.
     let number : NumberIn 1 most n pq.1.form = number_in_is 1 most n pq.1.form is in
-    below_done ps scope f g before pq mid k sem at (n - 1) code (λ xs has. locals_bin xs bop.Remu pq.0.code pq.1.code (k.one.locals xs has) (k.two.locals xs has))
+    below_done ps scope f g before pq mid k sem at (n - 1) code
+    (λ xs has. locals_bin xs bop.Remu pq.0.code pq.1.code (k.one.locals xs has) (k.two.locals xs has))
     (λ v env mem vars r.
     let form = r.1.form in
     let value_is = number.value_is v in

@@ -44,7 +44,8 @@ power_is f n is = by (number_in 0 31 f) refl where
             ap (λ (z : ℕ). 2 ^ z) low ∙ same);
       }
 
-pub sound : (ps : List Param) (scope : Scope) (f g : Env → ℕ) (before : Context) (pq : ExprOut × ExprOut) (mid : Context) → Pair ps scope f g Word Word before pq mid → (certs : List Cert) (at : ℕ)
+pub sound : (ps : List Param) (scope : Scope) (f g : Env → ℕ) (before : Context) (pq : ExprOut × ExprOut) (mid : Context)
+    → Pair ps scope f g Word Word before pq mid → (certs : List Cert) (at : ℕ)
     → Yields (ExprDone ps scope (λ env. apply op.Shl (f env) (g env)) Word before) (after certs at pq.0 pq.1 mid)
 sound ps scope f g before pq mid k certs at =
     yields_found (ExprDone ps scope sem Word before) mid (power pq.1.form) at 4 (λ n. multiple certs at (pos n) bop.Slu pq.0 pq.1)

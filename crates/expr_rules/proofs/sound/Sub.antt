@@ -25,13 +25,15 @@ use Rattle.expr_rules.proofs.Kids.{Pair}
 use Rattle.expr_rules.proofs.Sums.{known_minus}
 use Rattle.expr_rules.proofs.laws.Yields.{yields_shown, yields_made}
 
-pub sound : (ps : List Param) (scope : Scope) (f g : Env → ℕ) (before : Context) (pq : ExprOut × ExprOut) (mid : Context) → Pair ps scope f g Word Word before pq mid → (certs : List Cert) (at : ℕ)
+pub sound : (ps : List Param) (scope : Scope) (f g : Env → ℕ) (before : Context) (pq : ExprOut × ExprOut) (mid : Context)
+    → Pair ps scope f g Word Word before pq mid → (certs : List Cert) (at : ℕ)
     → Yields (ExprDone ps scope (λ env. apply op.Sub (f env) (g env)) Word before) (after certs at pq.0 pq.1 mid)
 sound ps scope f g before pq mid k certs at =
     yields_shown (ExprDone ps scope sem Word before) mid at certs form (λ _. made at form >>= (λ h. give (plain code h)))
     (λ closes. yields_made (ExprDone ps scope sem Word before) mid at form (λ h. give (plain code h))
     (came_done (And (Of f Word pq.0) (Of g Word pq.1)) ps scope before mid k.came sem Word (plain code form)
-    (plain_kid before mid code form (known_minus (length mid.tops) pq.0.form pq.1.form k.one.known k.two.known) (λ xs has. locals_bin xs bop.Sub pq.0.code pq.1.code (k.one.locals xs has) (k.two.locals xs has)))
+    (plain_kid before mid code form (known_minus (length mid.tops) pq.0.form pq.1.form k.one.known k.two.known)
+    (λ xs has. locals_bin xs bop.Sub pq.0.code pq.1.code (k.one.locals xs has) (k.two.locals xs has)))
     (λ call v env mem vars fits r.
     let shown : pos 0 ≤ℤ value_at v form = closes v fits.holds in
     let one = r.0.form in
@@ -39,7 +41,9 @@ sound ps scope f g before pq mid k certs at =
     let whole = value_minus v pq.0.form pq.1.form in
     let less : g env ≤ f env = omega (arith, ints, shown, whole, one, two) in
     let small = r.0.small in
-    plain_right (sem env) Word code form v mem vars (value_bin mem vars bop.Sub pq.0.code pq.1.code (f env) (g env) r.0.value r.1.value) (omega (arith, small, less)) (omega (arith, ints, whole, one, two, small, less)))))
+    plain_right (sem env) Word code form v mem vars
+    (value_bin mem vars bop.Sub pq.0.code pq.1.code (f env) (g env) r.0.value r.1.value) (omega (arith, small, less))
+    (omega (arith, ints, whole, one, two, small, less)))))
   where
     sem : Env → ℕ
     sem env = apply op.Sub (f env) (g env)

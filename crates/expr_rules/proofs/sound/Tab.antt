@@ -1,5 +1,6 @@
 -- e-tab is sound: the entry stands in the table's text at its offset.
-use Rattle.std.proofs.Common.{◌≡◌, refl, ◌∙◌, ap, arith, ℕ, zero, suc, ◌+◌, ◌*◌, ◌/◌, ◌%◌, ◌^◌, ◌<◌, ◌≤◌, inl, inr, nat_le, true, List, [], ◌∷◌, length, map, get_or, Some, slice_get, pos, negsuc, ◌≤ℤ◌, ◌+ℤ◌}
+use Rattle.std.proofs.Common.{◌≡◌, refl, ◌∙◌, ap, arith, ℕ, zero, suc, ◌+◌, ◌*◌, ◌/◌, ◌%◌, ◌^◌, ◌<◌, ◌≤◌, inl, inr, nat_le, true}
+use Rattle.std.proofs.Common.{List, [], ◌∷◌, length, map, get_or, Some, slice_get, pos, negsuc, ◌≤ℤ◌, ◌+ℤ◌}
 use Rattle.std.specs.Int.{w32, to_le_bytes}
 use Rattle.std.specs.List.{list_all}
 use Rattle.std.proofs.lemmas.Bool.{leb-true}
@@ -69,17 +70,21 @@ greatest_is Flag ns formed table = absurd (cc)
 -- The text.
 
 -- an entry that stands in the list stands in the text
-entry_found : (t : Scalar) (ns : List ℕ) (i n : ℕ) → is_table t ns ≡ true → slice_get ns i ≡ Some n → n ≤ top_of t → entry (size_of (entry_bytes t)) (text t ns) (entry_bytes t * i) ≡ Some n
+entry_found : (t : Scalar) (ns : List ℕ) (i n : ℕ) → is_table t ns ≡ true → slice_get ns i ≡ Some n → n ≤ top_of t
+    → entry (size_of (entry_bytes t)) (text t ns) (entry_bytes t * i) ≡ Some n
 entry_found Word ns i n table at small =
     let multiple : 4 * i % 4 ≡ 0 = omega arith in
     let start : 4 * i + 0 ≡ 4 * i = omega arith in
-    let byte = λ (k b : ℕ) (less : k < 4) (here : slice_get (to_le_bytes w32 n) k ≡ Some b). chunk (to_le_bytes w32) 4 (λ m. refl) ns i n k at less ∙ here in
+    let byte = λ (k b : ℕ) (less : k < 4) (here : slice_get (to_le_bytes w32 n) k ≡ Some b). chunk (to_le_bytes w32) 4 (λ m. refl)
+    ns i n k at less ∙ here in
     rw multiple (word_of (λ a. slice_get (text Word ns) a) (4 * i) n small
-    (rw start at (byte 0 (n % 256) (omega arith) refl)) (byte 1 (n / 256 % 256) (omega arith) refl) (byte 2 (n / 65536 % 256) (omega arith) refl) (byte 3 (n / 16777216 % 256) (omega arith) refl))
+    (rw start at (byte 0 (n % 256) (omega arith) refl)) (byte 1 (n / 256 % 256) (omega arith) refl)
+    (byte 2 (n / 65536 % 256) (omega arith) refl) (byte 3 (n / 16777216 % 256) (omega arith) refl))
 entry_found Byte ns i n table at small =
     let multiple : 1 * i % 1 ≡ 0 = omega arith in
     let start : 1 * i + 0 ≡ 1 * i = omega arith in
-    let byte : slice_get (text Byte ns) (1 * i + 0) ≡ Some (n % 256) = chunk (tab.entry Byte) 1 (λ m. refl) ns i n 0 at (omega arith) in
+    let byte : slice_get (text Byte ns) (1 * i + 0)
+    ≡ Some (n % 256) = chunk (tab.entry Byte) 1 (λ m. refl) ns i n 0 at (omega arith) in
     let same : n % 256 ≡ n = omega (arith, small) in
     rw multiple (rw start at byte ∙ ap Some same)
 entry_found Flag ns i n table at small = absurd (cc)
@@ -96,24 +101,30 @@ offset_small Byte i less = omega (arith, less)
 offset_small Flag i less = omega (arith, less)
 
 -- what is looked up in a table
-read : (t : Scalar) (ns : List ℕ) (i : ℕ) (p : ExprOut) (mem : Bytes) (vars : Vars) → numbers_formed ns ≡ true → is_table t ns ≡ true → length ns ≤ 65536 → i < length ns → value p.code mem vars ≡ Some i
+read : (t : Scalar) (ns : List ℕ) (i : ℕ) (p : ExprOut) (mem : Bytes) (vars : Vars) → numbers_formed ns ≡ true
+    → is_table t ns ≡ true → length ns ≤ 65536 → i < length ns → value p.code mem vars ≡ Some i
     → (value (code t ns p.code) mem vars ≡ Some (get_or ns i 0)) × (get_or ns i 0 ≤ greatest ns)
 read t ns i p mem vars formed table few less index =
     let n : ℕ = get_or ns i 0 in
     let below = below_greatest ns i in
     let most = greatest_is t ns formed table in
-    let offset_is = value_offset mem vars (entry_bytes t) i p.code (table_size t ns table) (offset_small t i (omega (arith, less, few))) index in (
+    let offset_is = value_offset mem vars (entry_bytes t) i p.code (table_size t ns table)
+    (offset_small t i (omega (arith, less, few))) index in (
       value_table mem vars (size_of (entry_bytes t)) (text t ns) (offset (entry_bytes t) p.code) (entry_bytes t * i) offset_is
           ∙ entry_found t ns i n table (slice_get-get_or ns i 0 less) (omega (arith, below, most)),
       below,
     )
 
-pub sound : (ps : List Param) (scope : Scope) (f : Env → ℕ) (before : Context) (p : ExprOut) (mid : Context) → ExprDone ps scope f Word before p mid → (certs : List Cert) (at : ℕ) (t : Scalar) (ns : List ℕ)
-    → numbers_formed ns ≡ true → is_table t ns ≡ true → is_small ns ≡ true → Yields (ExprDone ps scope (λ env. get_or ns (f env) 0) t before) (after certs at t ns p mid)
+pub sound : (ps : List Param) (scope : Scope) (f : Env → ℕ) (before : Context) (p : ExprOut) (mid : Context)
+    → ExprDone ps scope f Word before p mid → (certs : List Cert) (at : ℕ) (t : Scalar) (ns : List ℕ)
+    → numbers_formed ns ≡ true → is_table t ns ≡ true → is_small ns ≡ true
+    → Yields (ExprDone ps scope (λ env. get_or ns (f env) 0) t before) (after certs at t ns p mid)
 sound ps scope f before p mid d certs at t ns formed table small =
     yields_shown (ExprDone ps scope sem t before) mid at certs goal (λ _. fresh_result at (greatest ns) (code t ns p.code))
-    (λ closes. read_done (Of f Word p) ps scope before mid (came_one ps scope f Word before mid p d) sem t at (greatest ns) (code t ns p.code) (greatest_is t ns formed table)
-    (λ xs has. locals_table xs (size_of (entry_bytes t)) (text t ns) (offset (entry_bytes t) p.code) (locals_offset xs (entry_bytes t) p.code (d.locals xs has)))
+    (λ closes. read_done (Of f Word p) ps scope before mid (came_one ps scope f Word before mid p d) sem t at (greatest ns)
+    (code t ns p.code) (greatest_is t ns formed table)
+    (λ xs has. locals_table xs (size_of (entry_bytes t)) (text t ns) (offset (entry_bytes t) p.code)
+    (locals_offset xs (entry_bytes t) p.code (d.locals xs has)))
     (λ call v env mem vars fits r.
     let shown : pos 0 ≤ℤ value_at v goal = closes v fits.holds in
     let value_is = value_sum v (pos (length ns) +ℤ negsuc 0) ((negsuc 0, p.form) ∷ []) in

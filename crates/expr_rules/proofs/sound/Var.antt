@@ -20,7 +20,8 @@ use Rattle.expr_rules.proofs.Codes.{value_var, locals_var}
 use Rattle.expr_rules.proofs.Came.{Nothing, Came, came_done}
 use Rattle.expr_rules.proofs.Fresh.{plain_kid, plain_right}
 
-pub sound : (ps : List Param) (scope : Scope) (c : Context) → Came Nothing ps scope c c → (at : ℕ) (x : Name) (t : Scalar) → look_up scope x ≡ Some (One t)
+pub sound : (ps : List Param) (scope : Scope) (c : Context) → Came Nothing ps scope c c → (at : ℕ) (x : Name) (t : Scalar)
+    → look_up scope x ≡ Some (One t)
     → Yields (ExprDone ps scope (λ env. number (value_of env x)) t c) (after at x c)
 sound ps scope c came at x t typed = by (scalar c x) refl where
   by : (o : Option Held) → scalar c x ≡ o → Yields (ExprDone ps scope (λ env. number (value_of env x)) t c) (after at x c)
@@ -33,11 +34,13 @@ sound ps scope c came at x t typed = by (scalar c x) refl where
       let kind : h.kind ≡ t = cc in
       rw is
       (came_done Nothing ps scope c c came (λ env. number (value_of env x)) t (plain (b.Var h.local) h.form)
-      (plain_kid c c (b.Var h.local) h.form (came.consistent.scalars_known s.place h s.at) (λ xs has. locals_var xs h.local (has.scalars s.place h s.at)))
+      (plain_kid c c (b.Var h.local) h.form (came.consistent.scalars_known s.place h s.at)
+      (λ xs has. locals_var xs h.local (has.scalars s.place h s.at)))
       (λ call v env mem vars fits r.
       let here : ScalarFits v h (value_of env x) (local_at vars) = fits.scalars x h is in
       let value_is : number (value_of env x) ≡ here.number = ap number here.value in
       plain_right (number (value_of env x)) t (b.Var h.local) h.form v mem vars
       (value_var mem vars h.local ∙ here.local ∙ ap Some (sym value_is))
-      (subst (λ (k : Scalar). number (value_of env x) ≤ top_of k) kind (subst (λ (n : ℕ). n ≤ top_of h.kind) (sym value_is) here.kind))
+      (subst (λ (k : Scalar). number (value_of env x) ≤ top_of k) kind
+      (subst (λ (n : ℕ). n ≤ top_of h.kind) (sym value_is) here.kind))
       (here.form ∙ ap pos (sym value_is))))

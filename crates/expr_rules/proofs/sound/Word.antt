@@ -18,7 +18,8 @@ top_small Word = omega arith
 top_small Byte = omega arith
 top_small Flag = omega arith
 
-pub sound : (ps : List Param) (scope : Scope) (f : Env → ℕ) (t : Scalar) (before : Context) (p : ExprOut) (mid : Context) → ExprDone ps scope f t before p mid
+pub sound : (ps : List Param) (scope : Scope) (f : Env → ℕ) (t : Scalar) (before : Context) (p : ExprOut) (mid : Context)
+    → ExprDone ps scope f t before p mid
     → Yields (ExprDone ps scope f Word before) (after p mid)
 sound ps scope f t before p mid d =
     came_done (Of f t p) ps scope before mid (came_one ps scope f t before mid p d) f Word (plain p.code p.form)

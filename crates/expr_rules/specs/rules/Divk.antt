@@ -1,6 +1,8 @@
--- e-divk: a quotient by a number. The number times the quotient is at most the dividend, and what is left is less than the number.
+-- e-divk: a quotient by a number. The number times the quotient is at
+-- most the dividend, and what is left is less than the number.
 -- Condition 4: the divisor is a constant from 1 on, or the shift to the right is one from 0 to 31.
-use Rattle.std.specs.Prelude.{ℕ, ◌-◌, ◌/◌, ℤ, pos, negsuc, nat_abs, neg_ℤ, [], ◌∷◌, Option, Some, None, option_and_then, if◌then◌else◌}
+use Rattle.std.specs.Prelude.{ℕ, ◌-◌, ◌/◌, ℤ, pos, negsuc, nat_abs, neg_ℤ, [], ◌∷◌, Option, Some, None, option_and_then}
+use Rattle.std.specs.Prelude.{if◌then◌else◌}
 use Rattle.std.specs.Int.Signed.{le_z}
 use Rattle.side_certs.specs.LinearForm.{LinearForm}
 use Rattle.model_syntax.specs.declared.expr.Op.{Op}

@@ -20,7 +20,8 @@ product certs at goal form code = do
 -- an operation that gives a multiple of the first part
 abbrev pub multiple : List Cert → ℕ → ℤ → BOp → ExprOut → ExprOut → Rule ExprOut
 multiple certs at factor op p q =
-    product certs at (within (sum_of (pos most) ((neg_ℤ factor, p.form) ∷ []))) (within (times factor p.form)) (b.Bin op p.code q.code)
+    product certs at (within (sum_of (pos most) ((neg_ℤ factor, p.form) ∷ []))) (within (times factor p.form))
+    (b.Bin op p.code q.code)
 
 abbrev pub after : List Cert → ℕ → ExprOut → ExprOut → Rule ExprOut
 after certs at p q = do

@@ -1,5 +1,6 @@
 -- What paths take, over paths put together; a loop's turns add nothing to what the first adds.
-use Rattle.std.proofs.Common.{Bool, true, false, not, ◌&&◌, ◌||◌, ◌≡◌, refl, sym, ap, ◌∙◌, ℕ, zero, suc, nat_eq, List, [], ◌∷◌, ◌++◌, map, if◌then◌else◌}
+use Rattle.std.proofs.Common.{Bool, true, false, not, ◌&&◌, ◌||◌, ◌≡◌, refl, sym, ap, ◌∙◌, ℕ, zero, suc, nat_eq, List, [], ◌∷◌}
+use Rattle.std.proofs.Common.{◌++◌, map, if◌then◌else◌}
 use Rattle.flat_lang.specs.Paths.{Event, read, Ways, only, both, loops, takes, some_takes}
 
 -- there is a path
@@ -28,7 +29,8 @@ or_assoc : (a b c : Bool) → ((a || b) || c) ≡ (a || (b || c))
 or_assoc true b c = refl
 or_assoc false b c = refl
 
-spread : (w e x y : Bool) → (if w then (not e && (x || y)) else (e || (x || y))) ≡ ((if w then (not e && x) else (e || x)) || (if w then (not e && y) else (e || y)))
+spread : (w e x y : Bool) → (if w then (not e && (x || y)) else (e || (x || y)))
+    ≡ ((if w then (not e && x) else (e || x)) || (if w then (not e && y) else (e || y)))
 spread true true x y = refl
 spread true false x y = refl
 spread false true x y = refl
@@ -36,18 +38,22 @@ spread false false x y = refl
 
 takes_append : (v : ℕ) (a b : List Event) (k : Bool) → takes v (a ++ b) k ≡ takes v a (takes v b k)
 takes_append v [] b k = refl
-takes_append v (e ∷ a) b k = ap (λ t. if e.written then (not (nat_eq v e.var) && t) else (nat_eq v e.var || t)) (takes_append v a b k)
+takes_append v (e ∷ a) b k = ap (λ t. if e.written then (not (nat_eq v e.var) && t) else (nat_eq v e.var || t))
+    (takes_append v a b k)
 
 takes_or : (v : ℕ) (es : List Event) (p q : Bool) → takes v es (p || q) ≡ (takes v es p || takes v es q)
 takes_or v [] p q = refl
 takes_or v (e ∷ es) p q =
-    ap (λ t. if e.written then (not (nat_eq v e.var) && t) else (nat_eq v e.var || t)) (takes_or v es p q) ∙ spread e.written (nat_eq v e.var) (takes v es p) (takes v es q)
+    ap (λ t. if e.written then (not (nat_eq v e.var) && t) else (nat_eq v e.var || t)) (takes_or v es p q)
+    ∙ spread e.written (nat_eq v e.var) (takes v es p) (takes v es q)
 
 pub some_append : (v : ℕ) (a b : Ways) (k : Bool) → some_takes v (a ++ b) k ≡ (some_takes v a k || some_takes v b k)
 some_append v [] b k = refl
-some_append v (way ∷ a) b k = ap (λ t. takes v way k || t) (some_append v a b k) ∙ sym (or_assoc (takes v way k) (some_takes v a k) (some_takes v b k))
+some_append v (way ∷ a) b k = ap (λ t. takes v way k || t) (some_append v a b k)
+    ∙ sym (or_assoc (takes v way k) (some_takes v a k) (some_takes v b k))
 
-one_then : (v : ℕ) (a b : List Event) (bs : Ways) (k : Bool) → some_takes v (map (λ c. a ++ c) (b ∷ bs)) k ≡ takes v a (some_takes v (b ∷ bs) k)
+one_then : (v : ℕ) (a b : List Event) (bs : Ways) (k : Bool) → some_takes v (map (λ c. a ++ c) (b ∷ bs)) k
+    ≡ takes v a (some_takes v (b ∷ bs) k)
 one_then v a b [] k = or_false (takes v (a ++ b) k) ∙ takes_append v a b k ∙ ap (takes v a) (sym (or_false (takes v b k)))
 one_then v a b (c ∷ bs) k =
     ap (λ t. t || some_takes v (map (λ c. a ++ c) (c ∷ bs)) k) (takes_append v a b k)
@@ -115,13 +121,16 @@ turn_next f g false r s = by_value (g false) refl
     by_value true is = ap f (all_true g (f (g false)) s is ∙ sym is)
     by_value false is = ap (λ b. f (g (f b))) is ∙ turn_first f g false r
 
-one_turn : (v n : ℕ) (test body : Ways) (k : Bool) → Full test → some_takes v (loops (suc n) test body) k ≡ some_takes v test (k || some_takes v body (some_takes v (loops n test body) k))
+one_turn : (v n : ℕ) (test body : Ways) (k : Bool) → Full test → some_takes v (loops (suc n) test body) k
+    ≡ some_takes v test (k || some_takes v body (some_takes v (loops n test body) k))
 one_turn v n test body k full =
     some_both v test ([] ∷ both body (loops n test body)) k tt
     ∙ ap (λ t. some_takes v test (k || t)) (some_both v body (loops n test body) k (full_loops n test body full))
 
-pub some_loops : (v n : ℕ) (test body : Ways) (k : Bool) → Full test → some_takes v (loops (suc n) test body) k ≡ some_takes v test (k || some_takes v body false)
-some_loops v zero test body k full = one_turn v 0 test body k full ∙ turn_first (some_takes v test) (some_takes v body) k (some_rise v test)
+pub some_loops : (v n : ℕ) (test body : Ways) (k : Bool) → Full test → some_takes v (loops (suc n) test body) k
+    ≡ some_takes v test (k || some_takes v body false)
+some_loops v zero test body k full = one_turn v 0 test body k full
+    ∙ turn_first (some_takes v test) (some_takes v body) k (some_rise v test)
 some_loops v (suc n) test body k full =
     one_turn v (suc n) test body k full
     ∙ ap (λ t. some_takes v test (k || some_takes v body t)) (some_loops v n test body k full)

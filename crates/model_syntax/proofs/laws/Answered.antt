@@ -6,7 +6,8 @@ use Rattle.model_syntax.specs.Answer.{◌>>=◌}
 use Rattle.model_syntax.specs.Types as types
 
 -- the first of two questions in turn has its answer where the second has
-pub first_answered : {A B E : Type 0} (first : Result A E) (second : A → Result B E) (b : B) → (first >>= second) ≡ Ok b → (a : A) × ((first ≡ Ok a) × (second a ≡ Ok b))
+pub first_answered : {A B E : Type 0} (first : Result A E) (second : A → Result B E) (b : B) → (first >>= second) ≡ Ok b
+    → (a : A) × ((first ≡ Ok a) × (second a ≡ Ok b))
 first_answered (Ok a) second b is = (a, (refl, is))
 first_answered (Err why) second b is = absurd (cc)
 

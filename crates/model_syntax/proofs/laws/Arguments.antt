@@ -1,5 +1,6 @@
 -- What the check of parameters and of arguments answers says of each of them.
-use Rattle.std.proofs.Common.{◌≡◌, refl, sym, ◌∙◌, ap, arith, ℕ, ◌+◌, nat_eq, nat_le, Bool, true, false, List, [], ◌∷◌, length, Option, Some, None, Result, Ok, Err, if◌then◌else◌}
+use Rattle.std.proofs.Common.{◌≡◌, refl, sym, ◌∙◌, ap, arith, ℕ, ◌+◌, nat_eq, nat_le, Bool, true, false, List, [], ◌∷◌, length}
+use Rattle.std.proofs.Common.{Option, Some, None, Result, Ok, Err, if◌then◌else◌}
 use Rattle.std.proofs.lemmas.Bool.{eqb-true}
 use Rattle.rup_base.specs.declared.arg.Arg.{Arg}
 use Rattle.rup_base.specs.declared.refusal.ArgFault.TheVariants as fault
@@ -22,12 +23,14 @@ use Rattle.model_syntax.proofs.laws.Bindings.{up_here, up_else}
 abbrev declared : Option NameType → Name → NameType → Scope → Result Scope TypeWhy
 declared found x t c = elim found [ None ↦ Ok (bind x t c) | Some u ↦ Err why.Repeated ]
 
-declared_is : (found : Option NameType) (x : Name) (t : NameType) (c end : Scope) → declared found x t c ≡ Ok end → (found ≡ None) × (bind x t c ≡ end)
+declared_is : (found : Option NameType) (x : Name) (t : NameType) (c end : Scope) → declared found x t c ≡ Ok end
+    → (found ≡ None) × (bind x t c ≡ end)
 declared_is None x t c end is = (refl, answer_is (bind x t c) end is)
 declared_is (Some u) x t c end is = absurd (let bad : Err why.Repeated ≡ Ok end = is in cc)
 
 -- a name that is declared was not in scope
-pub declare_is : (x : Name) (t : NameType) (c end : Scope) → types.declare x t c ≡ Ok end → (look_up c x ≡ None) × (bind x t c ≡ end)
+pub declare_is : (x : Name) (t : NameType) (c end : Scope) → types.declare x t c ≡ Ok end
+    → (look_up c x ≡ None) × (bind x t c ≡ end)
 declare_is x t c end is = declared_is (look_up c x) x t c end is
 
 pub registers_is : (c end : Scope) → types.registers c ≡ Ok end → c ≡ end
@@ -35,10 +38,12 @@ registers_is c end is = by (nat_le (length c) 8) refl is
   where
     by : (b : Bool) → nat_le (length c) 8 ≡ b → types.registers c ≡ Ok end → c ≡ end
     by true few is = answer_is c end (let here : (if true then Ok c else Err why.Registers) ≡ Ok end = rw few at is in here)
-    by false few is = absurd (let bad : (if false then Ok c else Err why.Registers) ≡ Ok end = rw few at is in let worse : Err why.Registers ≡ Ok end = bad in cc)
+    by false few is = absurd (let bad : (if false then Ok c else Err why.Registers) ≡ Ok end = rw few at is in
+        let worse : Err why.Registers ≡ Ok end = bad in cc)
 
 -- a name that is not in scope after a binding was not before it, and is another
-pub none_before : (c : Scope) (x y : Name) (t : NameType) → look_up (bind x t c) y ≡ None → (same x y ≡ false) × (look_up c y ≡ None)
+pub none_before : (c : Scope) (x y : Name) (t : NameType) → look_up (bind x t c) y ≡ None
+    → (same x y ≡ false) × (look_up c y ≡ None)
 none_before c x y t none = by (same x y) refl
   where
     by : (is : Bool) → same x y ≡ is → (same x y ≡ false) × (look_up c y ≡ None)
@@ -59,7 +64,8 @@ fit_all k [] (a ∷ args) many is = absurd (omega (arith, many))
 fit_all k (p ∷ ps) [] many is = absurd (omega (arith, many))
 fit_all k (p ∷ ps) (a ∷ args) many is = by_test (fit_all (next k) ps args (omega (arith, many))) (model.fits p a) refl is
   where
-    by_test : (model.fit (next k) ps args ≡ Ok tt → AllFit ps args) → (test : Bool) → model.fits p a ≡ test → model.fit k (p ∷ ps) (a ∷ args) ≡ Ok tt → AllFit (p ∷ ps) (a ∷ args)
+    by_test : (model.fit (next k) ps args ≡ Ok tt → AllFit ps args) → (test : Bool) → model.fits p a ≡ test
+        → model.fit k (p ∷ ps) (a ∷ args) ≡ Ok tt → AllFit (p ∷ ps) (a ∷ args)
     by_test rest true e h = (e, rest (rw e at h))
     by_test rest false e h = absurd (let bad : Err (BadArguments (fault.Param k)) ≡ Ok tt = rw e at h in cc)
 

@@ -30,7 +30,8 @@ pub value_else : (x y : Name) (v : Arg) (env : Env) → same x y ≡ false → v
 value_else x y v [] apart = rw apart refl
 value_else x y v (h ∷ hs) apart = by (same h.name x) refl (same h.name y) refl (value_else x y v hs apart)
   where
-    by : (is : Bool) → same h.name x ≡ is → (of : Bool) → same h.name y ≡ of → value_of (put x v hs) y ≡ value_of hs y → value_of (put x v (h ∷ hs)) y ≡ value_of (h ∷ hs) y
+    by : (is : Bool) → same h.name x ≡ is → (of : Bool) → same h.name y ≡ of → value_of (put x v hs) y ≡ value_of hs y
+        → value_of (put x v (h ∷ hs)) y ≡ value_of (h ∷ hs) y
     by true is of at more = let far : same h.name y ≡ false = not_both h.name x y is apart in rw is (rw apart (rw far refl))
     by false is true at more = rw is (rw at refl)
     by false is false at more = rw is (rw at more)

@@ -145,7 +145,8 @@ module _ (step : Expr-F Bool → Bool) (w : IsOfParts step) where
       and_parts (fold-Expr Bool step p) (fold-Expr Bool step q) (sym (w.bin o _ _) ∙ sym (fold_bin Bool step o p q) ∙ is)
 
   pub bin_holds : (o : Op) (p q : Expr) → Holds p → Holds q → Holds (Bin o p q)
-  bin_holds o p q one two = fold_bin Bool step o p q ∙ w.bin o _ _ ∙ and_both (fold-Expr Bool step p) (fold-Expr Bool step q) one two
+  bin_holds o p q one two = fold_bin Bool step o p q ∙ w.bin o _ _
+      ∙ and_both (fold-Expr Bool step p) (fold-Expr Bool step q) one two
 
   pub lit_holds : (n : ℕ) → is_word n ≡ true → Holds (Lit n)
   lit_holds n is = fold_lit Bool step n ∙ w.lit n is

@@ -1,5 +1,6 @@
 -- A well typed model has at most eight parameters.
-use Rattle.std.proofs.Common.{◌≡◌, ◌+◌, ◌≤◌, Bool, true, false, nat_le, List, [], ◌∷◌, length, map, Option, Some, None, Result, Ok, Err, refl, sym, ap, arith, if◌then◌else◌}
+use Rattle.std.proofs.Common.{◌≡◌, ◌+◌, ◌≤◌, Bool, true, false, nat_le, List, [], ◌∷◌, length, map, Option, Some, None, Result}
+use Rattle.std.proofs.Common.{Ok, Err, refl, sym, ap, arith, if◌then◌else◌}
 use Rattle.std.proofs.lemmas.Bool.{leb-true}
 use Rattle.std.proofs.lemmas.List.{length-map, length-append}
 use Rattle.rup_base.specs.declared.refusal.TypePlace.TheVariants.{Params}
@@ -27,7 +28,8 @@ bound_more x t c = length-append c (record { name = x; shape = t } ∷ [])
 abbrev declared : Option NameType → Name → NameType → Scope → Result Scope TypeWhy
 declared found x t c = elim found [ None ↦ Ok (bind x t c) | Some u ↦ Err why.Repeated ]
 
-declared_more : (found : Option NameType) (x : Name) (t : NameType) (c end : Scope) → declared found x t c ≡ Ok end → length end ≡ length c + 1
+declared_more : (found : Option NameType) (x : Name) (t : NameType) (c end : Scope) → declared found x t c ≡ Ok end
+    → length end ≡ length c + 1
 declared_more None x t c end is = omega (arith, same_length (bind x t c) end is, bound_more x t c)
 declared_more (Some u) x t c end is = absurd (let bad : ◌≡◌ {A = Result Scope TypeWhy} (Err why.Repeated) (Ok end) = is in cc)
 
@@ -49,8 +51,12 @@ few_registers : (c end : Scope) → types.registers c ≡ Ok end → (length end
 few_registers c end is = by (nat_le (length c) 8) refl is
   where
     by : (b : Bool) → nat_le (length c) 8 ≡ b → types.registers c ≡ Ok end → (length end ≡ length c) × (length c ≤ 8)
-    by true few is = (same_length c end (let here : (if true then Ok c else Err why.Registers) ≡ Ok end = rw few at is in here), leb-true _ _ few)
-    by false few is = absurd (let bad : (if false then Ok c else Err why.Registers) ≡ Ok end = rw few at is in let worse : ◌≡◌ {A = Result Scope TypeWhy} (Err why.Registers) (Ok end) = bad in cc)
+    by true few is = (
+      same_length c end (let here : (if true then Ok c else Err why.Registers) ≡ Ok end = rw few at is in here),
+      leb-true _ _ few,
+    )
+    by false few is = absurd (let bad : (if false then Ok c else Err why.Registers) ≡ Ok end = rw few at is in
+        let worse : ◌≡◌ {A = Result Scope TypeWhy} (Err why.Registers) (Ok end) = bad in cc)
 
 params_few : (ps : List Param) (c end : Scope) → length c ≤ 8 → types.declare_params ps c ≡ Ok end → length c + length ps ≤ 8
 params_few [] c end few is = omega (arith, few)

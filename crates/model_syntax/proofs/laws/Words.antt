@@ -37,7 +37,8 @@ module _ (numbers : Name → ℕ) (c : Scope) (env : Env) (typed : IsTyped numbe
   Proved = (w : Expr) × IsOk w
 
   at_layer : (y : Expr-F Expr)
-      → (expr_formed_step (map-Expr Expr Bool expr_formed y) ≡ true → (t : Scalar) → type_step (map-Expr Expr (Scope → Typing) type_of y) c ≡ Ok t
+      → (expr_formed_step (map-Expr Expr Bool expr_formed y) ≡ true → (t : Scalar)
+      → type_step (map-Expr Expr (Scope → Typing) type_of y) c ≡ Ok t
       → is_word (eval_step (map-Expr Expr (Env → ℕ) eval y) env) ≡ true)
       → IsOk (roll-Expr y)
   at_layer y f formed t is =
@@ -47,7 +48,8 @@ module _ (numbers : Name → ℕ) (c : Scope) (env : Env) (typed : IsTyped numbe
 
   node : (y : Expr-F Proved) → IsOk (roll-Expr (map-Expr Proved Expr (λ k. k.0) y))
   node (e.Lit n) = at_layer (e.Lit n) (λ formed t is. formed)
-  node (e.Var x) = at_layer (e.Var x) (λ formed t is. number_word t (number (value_of env x)) (scalar_value numbers c env typed x t is))
+  node (e.Var x) = at_layer (e.Var x)
+      (λ formed t is. number_word t (number (value_of env x)) (scalar_value numbers c env typed x t is))
   node (e.Length a) =
       at_layer (e.Length a) (λ formed t is.
       let found = first_answered (element_in (look_up c a)) _ t is in
@@ -60,7 +62,8 @@ module _ (numbers : Name → ℕ) (c : Scope) (env : Env) (typed : IsTyped numbe
   node (e.Test cmp k m) = at_layer (e.Test cmp k.0 m.0) (λ formed t is. flag_is_word (holds cmp (eval k.0 env) (eval m.0 env)))
   node (e.Not k) = at_layer (e.Not k.0) (λ formed t is. flag_is_word (not (is_true (eval k.0 env))))
   node (e.Both k m) = at_layer (e.Both k.0 m.0) (λ formed t is. flag_is_word (is_true (eval k.0 env) && is_true (eval m.0 env)))
-  node (e.Either k m) = at_layer (e.Either k.0 m.0) (λ formed t is. flag_is_word (is_true (eval k.0 env) || is_true (eval m.0 env)))
+  node (e.Either k m) = at_layer (e.Either k.0 m.0)
+      (λ formed t is. flag_is_word (is_true (eval k.0 env) || is_true (eval m.0 env)))
   node (e.ToWord k) =
       at_layer (e.ToWord k.0) (λ formed t is.
       let narrow = first_answered (no_word (type_of k.0 c)) _ t is in
@@ -70,7 +73,8 @@ module _ (numbers : Name → ℕ) (c : Scope) (env : Env) (typed : IsTyped numbe
   node (e.Get a k) =
       at_layer (e.Get a k.0) (λ formed t is.
       let found = first_answered (element_in (look_up c a)) _ t is in
-      number_word found.0 (get_or (elements (value_of env a)) (eval k.0 env) 0) (element_value numbers c env typed a found.0 (eval k.0 env) found.1.0))
+      number_word found.0 (get_or (elements (value_of env a)) (eval k.0 env) 0)
+      (element_value numbers c env typed a found.0 (eval k.0 env) found.1.0))
   node (e.Tab u ns k) =
       at_layer (e.Tab u ns k.0) (λ formed t is.
       all_at is_word ns (eval k.0 env) refl (and_parts (all_true (map is_word ns)) (expr_formed k.0) formed).0)

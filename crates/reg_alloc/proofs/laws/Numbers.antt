@@ -1,5 +1,6 @@
 -- The numbers of places: different places have different numbers.
-use Rattle.std.proofs.Common.{◌≡◌, refl, ap, ◌∙◌, subst, sym, arith, ℕ, zero, suc, ◌+◌, ◌<◌, ◌≤◌, Bool, true, false, ◌&&◌, List, [], ◌∷◌, map, length, Option, Some, None, slice_get}
+use Rattle.std.proofs.Common.{◌≡◌, refl, ap, ◌∙◌, subst, sym, arith, ℕ, zero, suc, ◌+◌, ◌<◌, ◌≤◌, Bool, true, false, ◌&&◌, List}
+use Rattle.std.proofs.Common.{[], ◌∷◌, map, length, Option, Some, None, slice_get}
 use Rattle.std.proofs.lemmas.Bool.{ltb-true}
 use Rattle.rup_base.specs.Gather.{all_true}
 use Rattle.reg_alloc.specs.declared.plan.At.{At}
@@ -39,10 +40,13 @@ same_number vars (Reg r) (Slot m) h g is = absurd (let p = register_small vars r
 same_number vars (Slot n) (Reg q) h g is = absurd (let p = register_small vars q g in omega arith)
 same_number vars (Slot n) (Slot m) h g is = let e : n ≡ m = omega arith in ap Slot e
 
-pub each_valid : (vars : ℕ) (ps : List At) → all_true (map (is_place vars) ps) ≡ true → (i : ℕ) (a : At) → slice_get ps i ≡ Some a → is_place vars a ≡ true
+pub each_valid : (vars : ℕ) (ps : List At) → all_true (map (is_place vars) ps) ≡ true → (i : ℕ) (a : At) → slice_get ps i ≡ Some a
+    → is_place vars a ≡ true
 each_valid vars [] h i a is = absurd (let bad : ◌≡◌ {A = Option At} None (Some a) = is in cc)
-each_valid vars (p ∷ ps) h zero a is = let e : p ≡ a = cc in subst (λ z. is_place vars z ≡ true) e (and_left (is_place vars p) (all_true (map (is_place vars) ps)) h)
-each_valid vars (p ∷ ps) h (suc i) a is = each_valid vars ps (and_right (is_place vars p) (all_true (map (is_place vars) ps)) h) i a is
+each_valid vars (p ∷ ps) h zero a is = let e : p ≡ a = cc in
+    subst (λ z. is_place vars z ≡ true) e (and_left (is_place vars p) (all_true (map (is_place vars) ps)) h)
+each_valid vars (p ∷ ps) h (suc i) a is =
+    each_valid vars ps (and_right (is_place vars p) (all_true (map (is_place vars) ps)) h) i a is
 
 past_end : (ps : List At) (x : ℕ) → slice_get ps x ≡ None → length ps ≤ x
 past_end [] x h = omega arith
@@ -55,7 +59,8 @@ within (p ∷ ps) zero a h = omega arith
 within (p ∷ ps) (suc x) a h = let rest = within ps x a h in omega arith
 
 module _ (vars : ℕ) (ps : List At) (one_each : length ps ≡ vars) (valid : all_true (map (is_place vars) ps) ≡ true) where
-  numbers_differ_by : (v x : ℕ) (o q : Option At) → slice_get ps v ≡ o → slice_get ps x ≡ q → (v ≡ x → ⊥) → (Share ps v x → ⊥) → numbered v o ≡ numbered x q → ⊥
+  numbers_differ_by : (v x : ℕ) (o q : Option At) → slice_get ps v ≡ o → slice_get ps x ≡ q → (v ≡ x → ⊥) → (Share ps v x → ⊥)
+      → numbered v o ≡ numbered x q → ⊥
   numbers_differ_by v x None None is are other apart same = other (omega arith)
   numbers_differ_by v x (Some a) None is are other apart same =
       let past = past_end ps x are in
@@ -69,5 +74,6 @@ module _ (vars : ℕ) (ps : List At) (one_each : length ps ≡ vars) (valid : al
       let e = same_number vars a b (each_valid vars ps valid v a is) (each_valid vars ps valid x b are) same in
       apart (a, (is, are ∙ ap Some (sym e)))
 
-  pub numbers_differ : (v x : ℕ) → (v ≡ x → ⊥) → (Share ps v x → ⊥) → numbered v (slice_get ps v) ≡ numbered x (slice_get ps x) → ⊥
+  pub numbers_differ : (v x : ℕ) → (v ≡ x → ⊥) → (Share ps v x → ⊥) → numbered v (slice_get ps v) ≡ numbered x (slice_get ps x)
+      → ⊥
   numbers_differ v x other apart same = numbers_differ_by v x (slice_get ps v) (slice_get ps x) refl refl other apart same

@@ -1,5 +1,6 @@
 -- The code over places does what the code over variables does.
-use Rattle.std.proofs.Common.{◌≡◌, refl, ◌∙◌, ℕ, zero, suc, Bool, true, false, ◌||◌, nat_eq, List, [], ◌∷◌, map, Option, Some, None, slice_get, arith}
+use Rattle.std.proofs.Common.{◌≡◌, refl, ◌∙◌, ℕ, zero, suc, Bool, true, false, ◌||◌, nat_eq, List, [], ◌∷◌, map, Option, Some}
+use Rattle.std.proofs.Common.{None, slice_get, arith}
 use Rattle.std.specs.List.{AllByRecursion}
 use Rattle.flat_lang.specs.declared.flat.Flat.{Flat}
 use Rattle.flat_lang.specs.Paths.{read, takes, some_takes, Step, flat_steps}
@@ -28,16 +29,19 @@ result_read (s ∷ rets) zero r h = let e : s ≡ r = cc in or_left (nat_eq r s)
 result_read (s ∷ rets) (suc i) r h = or_right (nat_eq r s) (takes r (map read rets) false) (result_read rets i r h)
 
 module _ (flat : Flat) (plan : Plan) (ok : PlanOk flat plan) where
-  point_apart : (o : Option ℕ) (l : Lives) (s : Step) → s.writes ≡ o → ((v : ℕ) → some_takes v s.after false ≡ l v) → Clear plan.places s → Apart (place_number plan) o l
+  point_apart : (o : Option ℕ) (l : Lives) (s : Step) → s.writes ≡ o → ((v : ℕ) → some_takes v s.after false ≡ l v)
+      → Clear plan.places s → Apart (place_number plan) o l
   point_apart None l s writes after clear = tt
   point_apart (Some x) l s writes after clear = λ v live other same.
       numbers_differ flat.vars plan.places ok.one_each ok.places v x other (clear x v writes (after v ∙ live) other) same
 
-  points_apart : (ss : List Step) (qs : List Point) → Alike ss qs → AllByRecursion (Clear plan.places) ss → AllApart (place_number plan) qs
+  points_apart : (ss : List Step) (qs : List Point) → Alike ss qs → AllByRecursion (Clear plan.places) ss
+      → AllApart (place_number plan) qs
   points_apart [] [] alike clear = tt
   points_apart [] (q ∷ qs) alike clear = absurd alike
   points_apart (s ∷ ss) [] alike clear = absurd alike
-  points_apart (s ∷ ss) (q ∷ qs) alike clear = (point_apart q.writes q.after s alike.0 alike.1.0 clear.0, points_apart ss qs alike.1.1 clear.1)
+  points_apart (s ∷ ss) (q ∷ qs) alike clear =
+      (point_apart q.writes q.after s alike.0 alike.1.0 clear.0, points_apart ss qs alike.1.1 clear.1)
 
   pub flat_apart : AllApart (place_number plan) (flat_points flat)
   flat_apart = points_apart (flat_steps 1 flat) (flat_points flat) (steps_alike 0 flat) (ok.writes 0)
@@ -49,5 +53,6 @@ keep flat plan ok w s t places starts is =
     record {
       places_after = went.vars;
       runs = went.runs;
-      results = λ i r n at found. went.agrees r n (or_left (takes r (map read flat.rets) false) false (result_read flat.rets i r at)) found;
+      results = λ i r n at found. went.agrees r n
+          (or_left (takes r (map read flat.rets) false) false (result_read flat.rets i r at)) found;
     }

@@ -1,5 +1,6 @@
 -- Arguments meet a well typed model where an image of it may be called with them.
-use Rattle.std.proofs.Common.{◌≡◌, ◌↔◌, refl, sym, ◌∙◌, ap, subst, arith, ℕ, ◌+◌, ◌≤◌, nat_le, nat_lt, nat_eq, Bool, true, false, List, [], ◌∷◌, length, map, Option, Some, None, Result, Ok, Err, pos, if◌then◌else◌}
+use Rattle.std.proofs.Common.{◌≡◌, ◌↔◌, refl, sym, ◌∙◌, ap, subst, arith, ℕ, ◌+◌, ◌≤◌, nat_le, nat_lt, nat_eq, Bool, true, false}
+use Rattle.std.proofs.Common.{List, [], ◌∷◌, length, map, Option, Some, None, Result, Ok, Err, pos, if◌then◌else◌}
 use Rattle.std.proofs.lemmas.Bool.{le-leb, eqb-true}
 use Rattle.std.proofs.lemmas.Bool.Decides.{nat_tests}
 use Rattle.std.proofs.lemmas.List.{length-map}
@@ -10,7 +11,7 @@ use Rattle.rup_base.specs.declared.refusal.Refusal.{Refusal}
 use Rattle.rup_base.specs.declared.refusal.Refusal.TheVariants.{BadArguments}
 use Rattle.rup_base.specs.declared.refusal.TypeWhy.TheVariants as why
 use Rattle.rup_base.specs.Answers.{and_then}
-use Rattle.side_certs.specs.LinearForm.{LinearForm, value_at}
+use Rattle.side_certs.specs.LinearForm.{LinearForm, symbol, value_at}
 use Rattle.image_layout.specs.declared.image.Image.{Image}
 use Rattle.model_syntax.specs.Answer.{◌>>=◌}
 use Rattle.model_syntax.specs.Environment.{Env, value_of, number}
@@ -32,9 +33,11 @@ use Rattle.model_syntax.specs.declared.program.Param.{Param}
 use Rattle.model_syntax.specs.declared.program.Model.{Model}
 use Rattle.model_syntax.proofs.laws.Answered.{first_answered, at_answered}
 use Rattle.run_setup.specs.Arguments.{array_limit}
-use Rattle.run_setup.specs.Judging.{total_size, by_symbol, holds, symbol_values, judged_count, judged_kinds, judged_size, judged_requirements, judged}
+use Rattle.run_setup.specs.Judging.{total_size, by_symbol, holds, symbol_values, judged_count, judged_kinds, judged_size}
+use Rattle.run_setup.specs.Judging.{judged_requirements, judged}
 use Rattle.model_syntax.specs.Entries.{entry_names, number_among}
-use Rattle.run_setup.specs.Good.{side, side_step, requirement}
+use Rattle.run_setup.specs.Good.{requirement}
+use Rattle.sym_heap.specs.Sides.{side, side_step, difference}
 use Rattle.run_setup.specs.Laws.{JudgedIsMet}
 use Rattle.run_setup.proofs.Forms.{sum_value, multiple_value, constant_value, symbol_value, difference_test}
 use Rattle.run_setup.proofs.laws.Places.{and_ok, count_ok, size_ok}
@@ -48,27 +51,32 @@ scalar_is (Some (One u)) t is = cc
 scalar_is (Some (Many u k)) t is = absurd (cc)
 
 module _ (c : Scope) (env : Env) (names : List Name) (values : List ℕ) (stands : Stand c env names values) where
+  abbrev form : Name → LinearForm
+  form x = symbol (number_among x names)
+
   abbrev IsValued : Lin → Type 0
-  IsValued w = names_scalars w c ≡ Ok tt → value_at (by_symbol values) (side w names) ≡ pos (whole w env)
+  IsValued w = names_scalars w c ≡ Ok tt → value_at (by_symbol values) (side form w) ≡ pos (whole w env)
 
   abbrev Proved : Type 0
   Proved = (w : Lin) × IsValued w
 
   at_layer : (y : Lin-F Lin)
       → (names_step (map-Lin Lin (Scope → Rule) names_scalars y) c ≡ Ok tt
-      → value_at (by_symbol values) (side_step (map-Lin Lin (List Name → LinearForm) side y) names) ≡ pos (whole_step (map-Lin Lin (Env → ℕ) whole y) env))
+      → value_at (by_symbol values) (side_step form (map-Lin Lin LinearForm (side form) y))
+      ≡ pos (whole_step (map-Lin Lin (Env → ℕ) whole y) env))
       → IsValued (roll-Lin y)
   at_layer y f named =
-      ap (λ (g : List Name → LinearForm). value_at (by_symbol values) (g names)) (fold-roll-Lin (List Name → LinearForm) side_step y)
+      ap (λ (f : LinearForm). value_at (by_symbol values) f) (fold-roll-Lin LinearForm (side_step form) y)
       ∙ f (sym (ap (λ (g : Scope → Rule). g c) (fold-roll-Lin (Scope → Rule) names_step y)) ∙ named)
       ∙ sym (ap (λ (g : Env → ℕ). pos (g env)) (fold-roll-Lin (Env → ℕ) whole_step y))
 
   of_name : (x : Name) → names_step (l.Var x) c ≡ Ok tt
-      → value_at (by_symbol values) (side_step (l.Var x) names) ≡ pos (number (value_of env x))
+      → value_at (by_symbol values) (side_step form (l.Var x)) ≡ pos (number (value_of env x))
   of_name x named =
       let found = first_answered (scalar_in (look_up c x)) _ tt named in
-      let symbol = stands.scalars x found.0 (scalar_is (look_up c x) found.0 found.1.0) in
-      symbol_value (by_symbol values) (number_among x names) symbol.number symbol.value ∙ ap (λ o. pos (number o)) (sym symbol.held)
+      let entry = stands.scalars x found.0 (scalar_is (look_up c x) found.0 found.1.0) in
+      symbol_value (by_symbol values) (number_among x names) entry.number entry.value
+      ∙ ap (λ o. pos (number o)) (sym entry.held)
 
   node : (y : Lin-F Proved) → IsValued (roll-Lin (map-Lin Proved Lin (λ k. k.0) y))
   node (l.Const n) = at_layer (l.Const n) (λ named. constant_value (by_symbol values) n)
@@ -76,24 +84,30 @@ module _ (c : Scope) (env : Env) (names : List Name) (values : List ℕ) (stands
   node (l.Sum k m) =
       at_layer (l.Sum k.0 m.0) (λ named.
       let both = first_answered (names_scalars k.0 c) _ tt named in
-      sum_value (by_symbol values) (side k.0 names) (side m.0 names) (whole k.0 env) (whole m.0 env) (k.1 both.1.0) (m.1 both.1.1))
-  node (l.Scale n k) = at_layer (l.Scale n k.0) (λ named. multiple_value (by_symbol values) n (side k.0 names) (whole k.0 env) (k.1 named))
+      sum_value (by_symbol values) (side form k.0) (side form m.0) (whole k.0 env) (whole m.0 env) (k.1 both.1.0)
+      (m.1 both.1.1))
+  node (l.Scale n k) = at_layer (l.Scale n k.0)
+      (λ named. multiple_value (by_symbol values) n (side form k.0) (whole k.0 env) (k.1 named))
 
   side_value : (w : Lin) → IsValued w
   side_value = ind-Lin IsValued (λ z y is. subst (λ w. IsValued (roll-Lin w)) is (node y))
 
-  requirement_test : (r : Le) (ps : List Param) → entry_names ps ≡ names → types.fact r c ≡ Ok tt → holds values (requirement ps r) ≡ model.met r env
+  requirement_test : (r : Le) (ps : List Param) → entry_names ps ≡ names → types.fact r c ≡ Ok tt
+      → holds values (requirement ps r) ≡ model.met r env
   requirement_test r ps names_are is =
       let low = first_answered (names_scalars r.low c) _ tt is in
       let high = first_answered (names_scalars r.high c) _ tt low.1.1 in
-      rw names_are (difference_test (by_symbol values) (side r.high names) (side r.low names) (whole r.high env) (whole r.low env) (side_value r.high high.1.0) (side_value r.low low.1.0))
+      subst (λ (ns : List Name). holds values (difference (λ (x : Name). symbol (number_among x ns)) r) ≡ model.met r env)
+      (sym names_are) (difference_test (by_symbol values) (side form r.high) (side form r.low) (whole r.high env)
+      (whole r.low env) (side_value r.high high.1.0) (side_value r.low low.1.0))
 
   fact_of : (k : ℕ) (r : Le) → types.requirement k r c ≡ Ok tt → types.fact r c ≡ Ok tt
   fact_of k r is = by_few (nat_lt k 4096) refl is
     where
       by_few : (few : Bool) → nat_lt k 4096 ≡ few → types.requirement k r c ≡ Ok tt → types.fact r c ≡ Ok tt
       by_few true e h = let here : (if true then types.fact r c else Err why.WideForm) ≡ Ok tt = rw e at h in here
-      by_few false e h = absurd (let bad : (if false then types.fact r c else Err why.WideForm) ≡ Ok tt = rw e at h in let worse : Err why.WideForm ≡ Ok tt = bad in cc)
+      by_few false e h = absurd (let bad : (if false then types.fact r c else Err why.WideForm) ≡ Ok tt = rw e at h in
+          let worse : Err why.WideForm ≡ Ok tt = bad in cc)
 
   -- the forms hold where the requirements are met
   forms_hold : (k n j : ℕ) (rs : List Le) (ps : List Param) → entry_names ps ≡ names → types.requirements n rs c ≡ Ok tt
@@ -101,7 +115,9 @@ module _ (c : Scope) (env : Env) (names : List Name) (values : List ℕ) (stands
   forms_hold k n j [] ps names_are is = (λ met. refl, λ hold. refl)
   forms_hold k n j (r ∷ rs) ps names_are is =
       let one = first_answered (types.at _ (types.requirement n r c)) _ tt is in
-      let same : holds values (requirement ps r) ≡ model.met r env = requirement_test r ps names_are (fact_of n r (at_answered _ (types.requirement n r c) tt one.1.0)) in
+      let same : holds values (requirement ps r)
+      ≡ model.met r env = requirement_test r ps names_are (fact_of n r (at_answered _ (types.requirement n r c) tt one.1.0))
+      in
       by_test (forms_hold (next k) (next n) (j + 1) rs ps names_are one.1.1) (model.met r env) refl same
     where
       by_test : (model.all_met (next k) rs env ≡ Ok tt) ↔ (judged_requirements (j + 1) values (map (requirement ps) rs) ≡ Ok tt)
@@ -110,7 +126,11 @@ module _ (c : Scope) (env : Env) (names : List Name) (values : List ℕ) (stands
       by_test rest true e same = let held : holds values (requirement ps r) ≡ true = same ∙ e in rw (e, held) rest
       by_test rest false e same =
           let held : holds values (requirement ps r) ≡ false = same ∙ e in
-          rw (e, held) (λ met. absurd (let bad : Err (BadArguments (fault.Require k)) ≡ Ok tt = met in cc), λ hold. absurd (let bad : Err (BadArguments (fault.Require j)) ≡ Ok tt = hold in cc))
+          rw (e, held) (
+            λ met. absurd (let bad : Err (BadArguments (fault.Require k)) ≡ Ok tt = met in cc),
+            λ hold.
+                absurd (let bad : Err (BadArguments (fault.Require j)) ≡ Ok tt = hold in cc),
+          )
 
 -- Parameters.
 
@@ -120,7 +140,8 @@ fit_all k [] (a ∷ args) many is = absurd (omega (arith, many))
 fit_all k (p ∷ ps) [] many is = absurd (omega (arith, many))
 fit_all k (p ∷ ps) (a ∷ args) many is = by_test (fit_all (next k) ps args (omega (arith, many))) (model.fits p a) refl is
   where
-    by_test : (model.fit (next k) ps args ≡ Ok tt → AllFit ps args) → (test : Bool) → model.fits p a ≡ test → model.fit k (p ∷ ps) (a ∷ args) ≡ Ok tt → AllFit (p ∷ ps) (a ∷ args)
+    by_test : (model.fit (next k) ps args ≡ Ok tt → AllFit ps args) → (test : Bool) → model.fits p a ≡ test
+        → model.fit k (p ∷ ps) (a ∷ args) ≡ Ok tt → AllFit (p ∷ ps) (a ∷ args)
     by_test rest true e h = (e, rest (rw e at h))
     by_test rest false e h = absurd (let bad : Err (BadArguments (fault.Param k)) ≡ Ok tt = rw e at h in cc)
 
@@ -130,14 +151,16 @@ all_fit k [] (a ∷ args) all = absurd all
 all_fit k (p ∷ ps) [] all = absurd all
 all_fit k (p ∷ ps) (a ∷ args) all = rw all.0 (all_fit (next k) ps args all.1)
 
-kinds_all : (k : ℕ) (ps : List Param) (args : List Arg) → length args ≡ length ps → judged_kinds k (map kind_of ps) args ≡ Ok tt → AllFit ps args
+kinds_all : (k : ℕ) (ps : List Param) (args : List Arg) → length args ≡ length ps → judged_kinds k (map kind_of ps) args ≡ Ok tt
+    → AllFit ps args
 kinds_all k [] [] many is = tt
 kinds_all k [] (a ∷ args) many is = absurd (omega (arith, many))
 kinds_all k (p ∷ ps) [] many is = absurd (omega (arith, many))
 kinds_all k (p ∷ ps) (a ∷ args) many is =
     by_test (kinds_all (k + 1) ps args (omega (arith, many))) (is_of_kind (kind_of p) a) refl is
   where
-    by_test : (judged_kinds (k + 1) (map kind_of ps) args ≡ Ok tt → AllFit ps args) → (test : Bool) → is_of_kind (kind_of p) a ≡ test
+    by_test : (judged_kinds (k + 1) (map kind_of ps) args ≡ Ok tt → AllFit ps args) → (test : Bool)
+        → is_of_kind (kind_of p) a ≡ test
         → judged_kinds k (map kind_of (p ∷ ps)) (a ∷ args) ≡ Ok tt → AllFit (p ∷ ps) (a ∷ args)
     by_test rest true e h = (e, rest (rw e at h))
     by_test rest false e h = absurd (let bad : Err (BadArguments (fault.Param k)) ≡ Ok tt = rw e at h in cc)
@@ -162,10 +185,12 @@ all_of_kind (p ∷ ps) (a ∷ args) all = (all.0, all_of_kind ps args all.1)
 
 -- Both.
 
-then_both : {A B : Type 0} (first : Result A Refusal) (second : A → Result B Refusal) (a : A) (b : B) → first ≡ Ok a → second a ≡ Ok b → (first >>= second) ≡ Ok b
+then_both : {A B : Type 0} (first : Result A Refusal) (second : A → Result B Refusal) (a : A) (b : B) → first ≡ Ok a
+    → second a ≡ Ok b → (first >>= second) ≡ Ok b
 then_both first second a b is next_is = rw is next_is
 
-and_both : {A B : Type 0} (first : Result A Refusal) (second : A → Result B Refusal) (a : A) (b : B) → first ≡ Ok a → second a ≡ Ok b → and_then first second ≡ Ok b
+and_both : {A B : Type 0} (first : Result A Refusal) (second : A → Result B Refusal) (a : A) (b : B) → first ≡ Ok a
+    → second a ≡ Ok b → and_then first second ≡ Ok b
 and_both first second a b is next_is = rw is next_is
 
 counted : {X : Type 0} (n k : ℕ) (one other : X) → n ≡ k → (if nat_eq n k then one else other) ≡ one
@@ -187,17 +212,21 @@ fitting m args meets =
 sized : (args : List Arg) → total_size args ≤ array_limit → judged_size args ≡ Ok tt
 sized args small = let test : nat_le (total_size args) array_limit ≡ true = le-leb _ _ small in rw test refl
 
-module _ (m : Model) (i : Image) (args : List Arg) (well : Well m) (params_are : i.params ≡ map kind_of m.params) (requires_are : i.requires_ ≡ map (requirement m.params) m.requires_) where
+module _ (m : Model) (i : Image) (args : List Arg) (well : Well m) (params_are : i.params ≡ map kind_of m.params)
+    (requires_are : i.requires_ ≡ map (requirement m.params) m.requires_) where
   many : length i.params ≡ length m.params
   many = ap length params_are ∙ length-map m.params kind_of
 
   requirements_agree : AllFit m.params args → total_size args ≤ array_limit
-      → (model.all_met 0 m.requires_ (model.start m.params args []) ≡ Ok tt) ↔ (judged_requirements 0 (symbol_values i.params args) i.requires_ ≡ Ok tt)
+      → (model.all_met 0 m.requires_ (model.start m.params args []) ≡ Ok tt)
+      ↔ (judged_requirements 0 (symbol_values i.params args) i.requires_ ≡ Ok tt)
   requirements_agree fit small =
       let start = first_answered (types.at _ (types.declare_params m.params [])) _ tt well in
       let required = first_answered (types.requirements 0 m.requires_ start.0) _ tt start.1.1 in
-      let declared : types.declare_params m.params [] ≡ Ok start.0 = at_answered _ (types.declare_params m.params []) start.0 start.1.0 in
-      rw (params_are, requires_are) (forms_hold start.0 (model.start m.params args []) (entry_names m.params) (symbol_values (map kind_of m.params) args)
+      let declared : types.declare_params m.params []
+      ≡ Ok start.0 = at_answered _ (types.declare_params m.params []) start.0 start.1.0 in
+      rw (params_are, requires_are) (forms_hold start.0 (model.start m.params args []) (entry_names m.params)
+      (symbol_values (map kind_of m.params) args)
       (start_stands m.params args start.0 declared fit small) 0 0 0 m.requires_ m.params refl required.1.0)
 
   met : judged i args ≡ Ok tt → Meets m args × (total_size args ≤ array_limit)
@@ -207,10 +236,13 @@ module _ (m : Model) (i : Image) (args : List Arg) (well : Well m) (params_are :
       let size = and_ok (judged_size args) _ tt kinds.2 in
       let as_many : length args ≡ length m.params = count_ok i.params args count.0 count.1 ∙ many in
       let small : total_size args ≤ array_limit = size_ok args size.0 size.1 in
-      let kinds_hold : judged_kinds 0 (map kind_of m.params) args ≡ Ok tt = ap (λ ks. judged_kinds 0 ks args) (sym params_are) ∙ kinds.1 in
+      let kinds_hold : judged_kinds 0 (map kind_of m.params) args ≡ Ok tt = ap (λ ks. judged_kinds 0 ks args) (sym params_are)
+      ∙ kinds.1 in
       let fit : AllFit m.params args = kinds_all 0 m.params args as_many kinds_hold in (
-        then_both (model.counts m.params args) _ tt tt (counted (length args) (length m.params) (Ok tt) (Err (BadArguments fault.Count)) as_many)
-            (then_both (model.fit 0 m.params args) _ tt tt (all_fit 0 m.params args fit) ((requirements_agree fit small).1 size.2)),
+        then_both (model.counts m.params args) _ tt tt
+            (counted (length args) (length m.params) (Ok tt) (Err (BadArguments fault.Count)) as_many)
+            (then_both (model.fit 0 m.params args) _ tt tt (all_fit 0 m.params args fit)
+            ((requirements_agree fit small).1 size.2)),
         small,
       )
 
@@ -220,10 +252,13 @@ module _ (m : Model) (i : Image) (args : List Arg) (well : Well m) (params_are :
       let fit_all_ok = first_answered (model.fit 0 m.params args) _ tt count.1.1 in
       let as_many : length args ≡ length m.params = counts_ok m.params args count.0 count.1.0 in
       let fit : AllFit m.params args = fit_all 0 m.params args as_many fit_all_ok.1.0 in
-      let kinds_hold : judged_kinds 0 i.params args ≡ Ok tt = ap (λ ks. judged_kinds 0 ks args) params_are ∙ all_kinds 0 m.params args fit in
-      and_both (judged_count i.params args) _ tt tt (counted (length args) (length i.params) (Ok tt) (Err (BadArguments fault.Count)) (as_many ∙ sym many))
+      let kinds_hold : judged_kinds 0 i.params args
+      ≡ Ok tt = ap (λ ks. judged_kinds 0 ks args) params_are ∙ all_kinds 0 m.params args fit in
+      and_both (judged_count i.params args) _ tt tt
+      (counted (length args) (length i.params) (Ok tt) (Err (BadArguments fault.Count)) (as_many ∙ sym many))
       (and_both (judged_kinds 0 i.params args) _ tt tt kinds_hold
       (and_both (judged_size args) _ tt tt (sized args meets.1) ((requirements_agree fit meets.1).0 fit_all_ok.1.1)))
 
 pub judged_is_met : JudgedIsMet
-judged_is_met m i args well params_are requires_are = (met m i args well params_are requires_are, called m i args well params_are requires_are)
+judged_is_met m i args well params_are requires_are =
+    (met m i args well params_are requires_are, called m i args well params_are requires_are)

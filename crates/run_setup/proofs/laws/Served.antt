@@ -1,5 +1,6 @@
 -- A good image is served: its run returns, and the results are the model's.
-use Rattle.std.proofs.Common.{◌≡◌, ◌≢◌, refl, sym, ◌∙◌, ap, subst, arith, ℕ, zero, suc, ◌+◌, ◌*◌, ◌<◌, ◌≤◌, ◌^◌, min, List, [], ◌∷◌, ◌++◌, length, get_or, take, Option, Some, None, Result, Ok, Err, inl, inr, IfOk, true, ◌⊎◌}
+use Rattle.std.proofs.Common.{◌≡◌, ◌≢◌, refl, sym, ◌∙◌, ap, subst, arith, ℕ, zero, suc, ◌+◌, ◌*◌, ◌<◌, ◌≤◌, ◌^◌, min, List, []}
+use Rattle.std.proofs.Common.{◌∷◌, ◌++◌, length, get_or, take, Option, Some, None, Result, Ok, Err, inl, inr, IfOk, true, ◌⊎◌}
 use Rattle.std.specs.Prelude.{slice_get, sum_by}
 use Rattle.std.specs.List.{AllByRecursion, flat_map}
 use Rattle.std.specs.Int.{w32, from_le_bytes, to_le_bytes}
@@ -30,7 +31,8 @@ use Rattle.rv_machine.specs.declared.running.End.{End}
 use Rattle.rv_machine.specs.declared.running.End.TheVariants.{Returned, Trapped, OutOfSteps}
 use Rattle.run_setup.specs.Arguments.{bytes_of_words, words_of_bytes}
 use Rattle.run_setup.specs.Judging.{symbol_values}
-use Rattle.run_setup.specs.Loading.{base, return_address, aligned, end_after, end_of, registers_with, argument_values, image_end, start_state}
+use Rattle.run_setup.specs.Loading.{base, return_address, aligned, end_after, end_of, registers_with, argument_values, image_end}
+use Rattle.run_setup.specs.Loading.{start_state}
 use Rattle.run_setup.specs.Results.{bytes_at, array_at, place_of, results_from, results_of, line_of, lines_of}
 use Rattle.run_setup.specs.Digits.{two_digits}
 use Rattle.run_setup.specs.Ready.{array_bytes}
@@ -83,10 +85,12 @@ no_trap stop k n s e t cause b ran trapped less =
 
     by_end : (suc n < k) ⊎ (k ≤ suc n) → after (suc n) s ≡ Err cause → ⊥
     by_end (inl more) next = let u = b.before (suc n) more in bad u.0 next u.1
-    by_end (inr last) next = let same : k ≡ suc n = omega (arith, less, last) in bad e next (ap (λ (j : ℕ). after j s) (sym same) ∙ b.ran)
+    by_end (inr last) next = let same : k ≡ suc n = omega (arith, less, last) in
+        bad e next (ap (λ (j : ℕ). after j s) (sym same) ∙ b.ran)
 
 -- the run of the machine ends there
-pub comes_back : (stop budget k : ℕ) (s e t : State) (end : End) → Back stop k s e → k ≤ budget → Ran stop budget s end t → ((steps : ℕ) × (end ≡ Returned steps)) × (t ≡ e)
+pub comes_back : (stop budget k : ℕ) (s e t : State) (end : End) → Back stop k s e → k ≤ budget → Ran stop budget s end t
+    → ((steps : ℕ) × (end ≡ Returned steps)) × (t ≡ e)
 comes_back stop budget k s e t (Returned n) b few ran =
     let same : n ≡ k = by_order (cases_lt n k) (cases_lt k n) in
     ((n, refl), same_state k s t e (ap (λ (j : ℕ). after j s) (sym same) ∙ ran.0.ran) b.ran)
@@ -115,20 +119,25 @@ bytes_read mem address (b ∷ bytes) stands =
     let place : address ≡ address + 0 = omega arith in
     let here : get mem address ≡ Some b = ap (get mem) place ∙ stands 0 b refl in
     let rest : bytes_at mem (address + 1) (length bytes) ≡ bytes =
-    bytes_read mem (address + 1) bytes (λ k c is. let further : address + 1 + k ≡ address + suc k = omega arith in ap (get mem) further ∙ stands (suc k) c is) in
+    bytes_read mem (address + 1) bytes
+    (λ k c is. let further : address + 1 + k ≡ address + suc k = omega arith in ap (get mem) further ∙ stands (suc k) c is) in
     rw (here, rest) refl
 
 words_read : (words : List ℕ) → AllByRecursion (λ n. n < 2 ^ 32) words → words_of_bytes (bytes_of_words words) ≡ words
 words_read [] all = refl
 words_read (w ∷ words) all =
-    ap (λ (n : ℕ). n ∷ words_of_bytes (bytes_of_words words)) (from_le_bytes-to_le_bytes_4 w all.0) ∙ ap (λ (ws : List ℕ). w ∷ ws) (words_read words all.1)
+    ap (λ (n : ℕ). n ∷ words_of_bytes (bytes_of_words words)) (from_le_bytes-to_le_bytes_4 w all.0)
+    ∙ ap (λ (ws : List ℕ). w ∷ ws) (words_read words all.1)
 
-array_read : (mem : Bytes) (address : ℕ) (old result : Arg) → IsLike old result → HasWords result → Stands mem address (array_bytes result) → array_at mem address (Some old) ≡ result
+array_read : (mem : Bytes) (address : ℕ) (old result : Arg) → IsLike old result → HasWords result
+    → Stands mem address (array_bytes result) → array_at mem address (Some old) ≡ result
 array_read mem address (arg.Word n) result like words_fit stands = absurd like
-array_read mem address (arg.Bytes old) (arg.Bytes bytes) like words_fit stands = ap arg.Bytes (ap (bytes_at mem address) (sym like) ∙ bytes_read mem address bytes stands)
+array_read mem address (arg.Bytes old) (arg.Bytes bytes) like words_fit stands =
+    ap arg.Bytes (ap (bytes_at mem address) (sym like) ∙ bytes_read mem address bytes stands)
 array_read mem address (arg.Words old) (arg.Words words) like words_fit stands =
     let size : 4 * length old ≡ length (bytes_of_words words) = omega (arith, like, words_size words) in
-    ap arg.Words (ap words_of_bytes (ap (bytes_at mem address) size ∙ bytes_read mem address (bytes_of_words words) stands) ∙ words_read words words_fit)
+    ap arg.Words (ap words_of_bytes (ap (bytes_at mem address) size ∙ bytes_read mem address (bytes_of_words words) stands)
+    ∙ words_read words words_fit)
 array_read mem address (arg.Bytes old) (arg.Word n) like words_fit stands = absurd like
 array_read mem address (arg.Bytes old) (arg.Words words) like words_fit stands = absurd like
 array_read mem address (arg.Words old) (arg.Word n) like words_fit stands = absurd like
@@ -146,15 +155,19 @@ word_again n = le_bytes_4 (to_le_bytes w32 n) (from_le_bytes w32 (to_le_bytes w3
 
 words_again : (words : List ℕ) → bytes_of_words (words_of_bytes (bytes_of_words words)) ≡ bytes_of_words words
 words_again [] = refl
-words_again (w ∷ words) = ap (λ (bs : List ℕ). bs ++ bytes_of_words (words_of_bytes (bytes_of_words words))) (word_again w) ∙ ap (λ (bs : List ℕ). to_le_bytes w32 w ++ bs) (words_again words)
+words_again (w ∷ words) = ap (λ (bs : List ℕ). bs ++ bytes_of_words (words_of_bytes (bytes_of_words words))) (word_again w)
+    ∙ ap (λ (bs : List ℕ). to_le_bytes w32 w ++ bs) (words_again words)
 
 -- an array is printed as it stands
-array_printed : (mem : Bytes) (address : ℕ) (old result : Arg) → IsLike old result → Stands mem address (array_bytes result) → line_of (array_at mem address (Some old)) ≡ line_of result
+array_printed : (mem : Bytes) (address : ℕ) (old result : Arg) → IsLike old result → Stands mem address (array_bytes result)
+    → line_of (array_at mem address (Some old)) ≡ line_of result
 array_printed mem address (arg.Word n) result like stands = absurd like
-array_printed mem address (arg.Bytes old) (arg.Bytes bytes) like stands = ap (λ (bs : List ℕ). line_of (arg.Bytes bs)) (ap (bytes_at mem address) (sym like) ∙ bytes_read mem address bytes stands)
+array_printed mem address (arg.Bytes old) (arg.Bytes bytes) like stands =
+    ap (λ (bs : List ℕ). line_of (arg.Bytes bs)) (ap (bytes_at mem address) (sym like) ∙ bytes_read mem address bytes stands)
 array_printed mem address (arg.Words old) (arg.Words words) like stands =
     let size : 4 * length old ≡ length (bytes_of_words words) = omega (arith, like, words_size words) in
-    ap (λ (bs : List ℕ). line_of (arg.Words (words_of_bytes bs))) (ap (bytes_at mem address) size ∙ bytes_read mem address (bytes_of_words words) stands)
+    ap (λ (bs : List ℕ). line_of (arg.Words (words_of_bytes bs)))
+    (ap (bytes_at mem address) size ∙ bytes_read mem address (bytes_of_words words) stands)
     ∙ ap (λ (bs : List ℕ). flat_map two_digits bs ++ 10 ∷ []) (words_again words)
 array_printed mem address (arg.Bytes old) (arg.Word n) like stands = absurd like
 array_printed mem address (arg.Bytes old) (arg.Words words) like stands = absurd like
@@ -173,7 +186,8 @@ like_array (arg.Word n) result like = absurd like
 like_array (arg.Bytes old) result like = tt
 like_array (arg.Words old) result like = tt
 
-behind_held : (s : State) (end r : ℕ) (k : Kind) (a : Arg) (vs : List ℕ) → is_of_kind k a ≡ true → Hold s r (registers_with end k a ++ vs) → Hold s (r + registers_of k) vs
+behind_held : (s : State) (end r : ℕ) (k : Kind) (a : Arg) (vs : List ℕ) → is_of_kind k a ≡ true
+    → Hold s r (registers_with end k a ++ vs) → Hold s (r + registers_of k) vs
 behind_held s end r kind.Word (arg.Word n) vs fit held = rest_held s r n vs held
 behind_held s end r kind.Byte (arg.Word n) vs fit held = rest_held s r n vs held
 behind_held s end r (kind.Bytes None) (arg.Bytes bytes) vs fit held = rest_held_2 s r (aligned end) (length bytes) vs held
@@ -189,13 +203,16 @@ behind_held s end r (kind.Bytes n) (arg.Words words) vs fit held = no_fit fit
 behind_held s end r (kind.Words n) (arg.Word k) vs fit held = no_fit fit
 behind_held s end r (kind.Words n) (arg.Bytes bytes) vs fit held = no_fit fit
 
-first_pointer : (s : State) (end r : ℕ) (k : Kind) (a : Arg) (vs : List ℕ) → IsArray a → Hold s r (registers_with end k a ++ vs) → register s.regs r ≡ aligned end
+first_pointer : (s : State) (end r : ℕ) (k : Kind) (a : Arg) (vs : List ℕ) → IsArray a → Hold s r (registers_with end k a ++ vs)
+    → register s.regs r ≡ aligned end
 first_pointer s end r k (arg.Word n) vs array held = absurd array
 first_pointer s end r k (arg.Bytes bytes) vs array held = first_held s r (aligned end) _ held
 first_pointer s end r k (arg.Words words) vs array held = first_held s r (aligned end) _ held
 
-pointer_is : (s : State) (kinds : List Kind) (args : List Arg) (end r p : ℕ) (a : Arg) → AllOfKind kinds args → Hold s r (argument_values end kinds args)
-    → slice_get args p ≡ Some a → IsArray a → register s.regs (r + sum_by registers_of (take p kinds)) ≡ aligned (end_of end (take p args))
+pointer_is : (s : State) (kinds : List Kind) (args : List Arg) (end r p : ℕ) (a : Arg) → AllOfKind kinds args
+    → Hold s r (argument_values end kinds args)
+    → slice_get args p ≡ Some a → IsArray a → register s.regs (r + sum_by registers_of (take p kinds))
+    ≡ aligned (end_of end (take p args))
 pointer_is s [] [] end r p a fit held there array = absurd (let bad = slice_get_within [] p a there in omega (arith, bad))
 pointer_is s [] (b ∷ args) end r p a fit held there array = absurd fit
 pointer_is s (k ∷ kinds) [] end r p a fit held there array = absurd fit
@@ -205,57 +222,71 @@ pointer_is s (k ∷ kinds) (b ∷ args) end r zero a fit held there array =
     ap (λ (q : ℕ). register s.regs q) place
     ∙ first_pointer s end r k b (argument_values (end_after end b) kinds args) (subst IsArray (sym same) array) held
 pointer_is s (k ∷ kinds) (b ∷ args) end r (suc p) a fit held there array =
-    let place : r + sum_by registers_of (k ∷ take p kinds) ≡ r + registers_of k + sum_by registers_of (take p kinds) = omega (arith, sum_by-cons registers_of k (take p kinds)) in
+    let place : r + sum_by registers_of (k ∷ take p kinds) ≡ r + registers_of k + sum_by registers_of (take p kinds) =
+    omega (arith, sum_by-cons registers_of k (take p kinds)) in
     ap (λ (q : ℕ). register s.regs q) place
-    ∙ pointer_is s kinds args (end_after end b) (r + registers_of k) p a fit.1 (behind_held s end r k b (argument_values (end_after end b) kinds args) fit.0 held) there array
+    ∙ pointer_is s kinds args (end_after end b) (r + registers_of k) p a fit.1
+    (behind_held s end r k b (argument_values (end_after end b) kinds args) fit.0 held) there array
 
 -- Results.
 
-there_if_like : (args : List Arg) (p : ℕ) (result : Arg) → IsLike (get_or args p (arg.Word 0)) result → slice_get args p ≡ Some (get_or args p (arg.Word 0))
+there_if_like : (args : List Arg) (p : ℕ) (result : Arg) → IsLike (get_or args p (arg.Word 0)) result
+    → slice_get args p ≡ Some (get_or args p (arg.Word 0))
 there_if_like args p result like = by_place (cases_lt p (length args))
   where
     by_place : (p < length args) ⊎ (length args ≤ p) → slice_get args p ≡ Some (get_or args p (arg.Word 0))
     by_place (inl within) = slice_get-get_or args p (arg.Word 0) within
     by_place (inr past) = absurd (subst (λ (a : Arg). IsLike a result) (get_or_past args p (arg.Word 0) past) like)
 
-module _ (i : Image) (args : List Arg) (s u : State) (fit : AllOfKind i.params args) (holds : Hold s 10 (argument_values (image_end i) i.params args)) where
+module _ (i : Image) (args : List Arg) (s u : State) (fit : AllOfKind i.params args)
+    (holds : Hold s 10 (argument_values (image_end i) i.params args)) where
   -- what holds of the array that stands, holds of the one in the place of its argument
-  array_there : (p : ℕ) (result : Arg) (P : Arg → Type 0) → IsLike (get_or args p (arg.Word 0)) result → Stands u.mem (register s.regs (register_of i.params p)) (array_bytes result)
-      → ((address : ℕ) (old : Arg) → IsLike old result → Stands u.mem address (array_bytes result) → P (array_at u.mem address (Some old)))
+  array_there : (p : ℕ) (result : Arg) (P : Arg → Type 0) → IsLike (get_or args p (arg.Word 0)) result
+      → Stands u.mem (register s.regs (register_of i.params p)) (array_bytes result)
+      → ((address : ℕ) (old : Arg) → IsLike old result → Stands u.mem address (array_bytes result)
+      → P (array_at u.mem address (Some old)))
       → P (array_at u.mem (place_of i args p) (slice_get args p))
   array_there p result P like stands holding =
       let old = get_or args p (arg.Word 0) in
       let there : slice_get args p ≡ Some old = there_if_like args p result like in
-      let pointer : register s.regs (register_of i.params p) ≡ place_of i args p = pointer_is s i.params args (image_end i) 10 p old fit holds there (like_array old result like) in
+      let pointer : register s.regs (register_of i.params p)
+      ≡ place_of i args p = pointer_is s i.params args (image_end i) 10 p old fit holds there (like_array old result like)
+      in
       subst (λ (o : Option Arg). P (array_at u.mem (place_of i args p) o)) (sym there)
       (holding (place_of i args p) old like (subst (λ (q : ℕ). Stands u.mem q (array_bytes result)) pointer stands))
 
-  results_read : (rets : List (Option ℕ)) (found : List Arg) (r : ℕ) → HasResults i.params rets found r s u → AreLike rets args found → AllByRecursion HasWords found → results_from u i args r rets ≡ found
+  results_read : (rets : List (Option ℕ)) (found : List Arg) (r : ℕ) → HasResults i.params rets found r s u
+      → AreLike rets args found → AllByRecursion HasWords found → results_from u i args r rets ≡ found
   results_read [] [] r has like words_fit = refl
   results_read [] (result ∷ found) r has like words_fit = absurd has
   results_read (None ∷ rets) [] r has like words_fit = absurd has
   results_read (Some p ∷ rets) [] r has like words_fit = absurd has
   results_read (None ∷ rets) (arg.Word n ∷ found) r has like words_fit =
-      ap (λ (k : ℕ). arg.Word k ∷ results_from u i args (r + 1) rets) has.0 ∙ ap (λ (l : List Arg). arg.Word n ∷ l) (results_read rets found (r + 1) has.1 like words_fit.1)
+      ap (λ (k : ℕ). arg.Word k ∷ results_from u i args (r + 1) rets) has.0
+      ∙ ap (λ (l : List Arg). arg.Word n ∷ l) (results_read rets found (r + 1) has.1 like words_fit.1)
   results_read (None ∷ rets) (arg.Bytes bytes ∷ found) r has like words_fit = absurd has
   results_read (None ∷ rets) (arg.Words words ∷ found) r has like words_fit = absurd has
   results_read (Some p ∷ rets) (result ∷ found) r has like words_fit =
       ap (λ (a : Arg). a ∷ results_from u i args r rets)
-      (array_there p result (λ a. a ≡ result) like.0 has.0 (λ address old is_like stands. array_read u.mem address old result is_like words_fit.0 stands))
+      (array_there p result (λ a. a ≡ result) like.0 has.0
+      (λ address old is_like stands. array_read u.mem address old result is_like words_fit.0 stands))
       ∙ ap (λ (l : List Arg). result ∷ l) (results_read rets found r has.1 like.1 words_fit.1)
 
-  results_printed : (rets : List (Option ℕ)) (found : List Arg) (r : ℕ) → HasResults i.params rets found r s u → AreLike rets args found → lines_of (results_from u i args r rets) ≡ lines_of found
+  results_printed : (rets : List (Option ℕ)) (found : List Arg) (r : ℕ) → HasResults i.params rets found r s u
+      → AreLike rets args found → lines_of (results_from u i args r rets) ≡ lines_of found
   results_printed [] [] r has like = refl
   results_printed [] (result ∷ found) r has like = absurd has
   results_printed (None ∷ rets) [] r has like = absurd has
   results_printed (Some p ∷ rets) [] r has like = absurd has
   results_printed (None ∷ rets) (arg.Word n ∷ found) r has like =
-      ap (λ (k : ℕ). line_of (arg.Word k) ++ lines_of (results_from u i args (r + 1) rets)) has.0 ∙ ap (λ (l : List ℕ). line_of (arg.Word n) ++ l) (results_printed rets found (r + 1) has.1 like)
+      ap (λ (k : ℕ). line_of (arg.Word k) ++ lines_of (results_from u i args (r + 1) rets)) has.0
+      ∙ ap (λ (l : List ℕ). line_of (arg.Word n) ++ l) (results_printed rets found (r + 1) has.1 like)
   results_printed (None ∷ rets) (arg.Bytes bytes ∷ found) r has like = absurd has
   results_printed (None ∷ rets) (arg.Words words ∷ found) r has like = absurd has
   results_printed (Some p ∷ rets) (result ∷ found) r has like =
       ap (λ (l : List ℕ). l ++ lines_of (results_from u i args r rets))
-      (array_there p result (λ a. line_of a ≡ line_of result) like.0 has.0 (λ address old is_like stands. array_printed u.mem address old result is_like stands))
+      (array_there p result (λ a. line_of a ≡ line_of result) like.0 has.0
+      (λ address old is_like stands. array_printed u.mem address old result is_like stands))
       ∙ ap (λ (l : List ℕ). line_of result ++ l) (results_printed rets found r has.1 like.1)
 
 -- The model's results.
@@ -269,9 +300,12 @@ if_ok_is (Err why) a P is holds = absurd (cc)
 
 pub good_is_served : GoodIsServed
 good_is_served m i args end t well limits good meets small numbers few ran =
-    let like : AreLike i.rets args (results m args) = subst (λ (rs : List (Option ℕ)). AreLike rs args (results m args)) (sym good.rets_are) (results_like m args well meets small) in
+    let like : AreLike i.rets args (results m args) =
+    subst (λ (rs : List (Option ℕ)). AreLike rs args (results m args)) (sym good.rets_are)
+    (results_like m args well meets small) in
     let s = start_state i args in
-    let fit : AllOfKind i.params args = subst (λ (ks : List Kind). AllOfKind ks args) (sym good.params_are) (fitting m args meets) in
+    let fit : AllOfKind i.params args = subst (λ (ks : List Kind). AllOfKind ks args) (sym good.params_are) (fitting m args meets)
+    in
     let r = good.returns args base s (loaded_is_ready m i args limits good.params_are meets small numbers) in
     let ra : register s.regs 1 ≡ return_address = ra_is i args limits fit small in
     let back : Back return_address r.steps s r.end =
@@ -280,13 +314,20 @@ good_is_served m i args end t well limits good meets small numbers few ran =
       back = r.back ∙ ra;
       before = λ j less. let way = r.before j less in (way.state, way.ran, λ at. way.not_back (at ∙ sym ra));
     } in
-    let done = comes_back return_address (min (at (symbol_values i.params args) i.bound) step_limit) r.steps s r.end t end back (omega (arith, r.in_time, few)) ran in
-    let has : HasResults i.params i.rets (results m args) 10 s r.end = if_ok_is (value m args) (results m args) (λ found. HasResults i.params i.rets found 10 s r.end) (value_is m args meets) r.has_results in
+    let done = comes_back return_address (min (at (symbol_values i.params args) i.bound) step_limit) r.steps s r.end t end back
+    (omega (arith, r.in_time, few)) ran in
+    let has : HasResults i.params i.rets (results m args) 10 s r.end =
+    if_ok_is (value m args) (results m args) (λ found. HasResults i.params i.rets found 10 s r.end) (value_is m args meets)
+    r.has_results in
     record {
       steps = done.0.0;
       returned = done.0.1;
-      printed = ap (λ (v : State). lines_of (results_of v i args)) done.1 ∙ results_printed i args s r.end fit (registers_hold i args limits fit small) i.rets (results m args) 10 has like;
+      printed = ap (λ (v : State). lines_of (results_of v i args)) done.1
+          ∙ results_printed i args s r.end fit (registers_hold i args limits fit small) i.rets (results m args) 10 has like;
       same = λ formed spellable.
-          let words_fit = results_fit (end_scope m) (start_env m.params args []) m.rets (results m args) (models_sound m args well formed spellable meets) in
-          ap (λ (v : State). results_of v i args) done.1 ∙ results_read i args s r.end fit (registers_hold i args limits fit small) i.rets (results m args) 10 has like words_fit;
+          let words_fit = results_fit (end_scope m) (start_env m.params args []) m.rets (results m args)
+          (models_sound m args well formed spellable meets) in
+          ap (λ (v : State). results_of v i args) done.1
+          ∙ results_read i args s r.end fit (registers_hold i args limits fit small) i.rets (results m args) 10 has like
+          words_fit;
     }

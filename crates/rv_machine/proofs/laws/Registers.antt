@@ -1,5 +1,6 @@
 -- What the registers have after a write.
-use Rattle.std.proofs.Common.{◌≡◌, ◌≢◌, ℕ, ◌<◌, Bool, true, false, List, length, ◌==◌, if◌then◌else◌, refl, arith, set, length-set}
+use Rattle.std.proofs.Common.{◌≡◌, ◌≢◌, ℕ, ◌<◌, Bool, true, false, List, length, ◌==◌, if◌then◌else◌, refl, arith, set}
+use Rattle.std.proofs.Common.{length-set}
 use Rattle.std.proofs.lemmas.Grind.{common_steps}
 use Rattle.rv_machine.specs.State.{register, with_register}
 

@@ -1,195 +1,267 @@
 -- The table over words and the table over instructions agree: a word that is an instruction's does what the
 -- instruction does, and a word that is none is illegal.
-use Rattle.std.proofs.Common.{◌≡◌, ℕ, ◌+◌, ◌*◌, ◌/◌, ◌%◌, ◌^◌, ◌<◌, Bool, true, false, not, None, Err, ◌==◌, nat_lt, if◌then◌else◌, bit_and, bit_or, bit_xor, refl, ap, arith}
+use Rattle.std.proofs.Common.{◌≡◌, ℕ, ◌+◌, ◌*◌, ◌/◌, ◌%◌, ◌^◌, ◌<◌, Bool, true, false, not, None, Err, ◌==◌, nat_lt}
+use Rattle.std.proofs.Common.{if◌then◌else◌, bit_and, bit_or, bit_xor, refl, ap, arith}
 use Rattle.std.proofs.lemmas.Bool.{eqb-true}
 use Rattle.rv_code.specs.declared.instruction.Instr.{Instr}
-use Rattle.rv_code.specs.declared.instruction.Instr.TheVariants.{Lui, Auipc, Jal, Jalr, Beq, Bne, Blt, Bge, Bltu, Bgeu, Lb, Lh, Lw, Lbu, Lhu, Sb, Sh, Sw, Addi, Slti, Sltiu, Xori, Ori, Andi, Slli, Srli, Srai, Add, Sub, Sll, Slt, Sltu, Xor, Srl, Sra, Or, And, Mul, Mulh, Mulhsu, Mulhu, Div, Divu, Rem, Remu, Fence, Ecall as EcallCode, Ebreak as EbreakCode}
+use Rattle.rv_code.specs.declared.instruction.Instr.TheVariants.{Lui, Auipc, Jal, Jalr, Beq, Bne, Blt, Bge, Bltu, Bgeu, Lb, Lh}
+use Rattle.rv_code.specs.declared.instruction.Instr.TheVariants.{Lw, Lbu, Lhu, Sb, Sh, Sw, Addi, Slti, Sltiu, Xori, Ori, Andi}
+use Rattle.rv_code.specs.declared.instruction.Instr.TheVariants.{Slli, Srli, Srai, Add, Sub, Sll, Slt, Sltu, Xor, Srl, Sra, Or}
+use Rattle.rv_code.specs.declared.instruction.Instr.TheVariants.{And, Mul, Mulh, Mulhsu, Mulhu, Div, Divu, Rem, Remu, Fence}
+use Rattle.rv_code.specs.declared.instruction.Instr.TheVariants.{Ecall as EcallCode, Ebreak as EbreakCode}
 use Rattle.rv_code.specs.Word.{word_of}
 use Rattle.rv_code.specs.Field.{reg, imm12, imm13, imm20, imm21, shamt, bits12}
 use Rattle.rv_machine.specs.declared.cause.Cause.TheVariants.{Illegal, Ecall, Ebreak}
-use Rattle.rv_machine.specs.Word.{plus, minus, shifted_left, shifted_right, shifted_signed, less, is_less_signed, less_signed, product, high_signed, high_mixed, high_unsigned, quotient_signed, quotient, remainder_signed, remainder}
+use Rattle.rv_machine.specs.Word.{plus, minus, shifted_left, shifted_right, shifted_signed, less, is_less_signed, less_signed}
+use Rattle.rv_machine.specs.Word.{product, high_signed, high_mixed, high_unsigned, quotient_signed, quotient, remainder_signed}
+use Rattle.rv_machine.specs.Word.{remainder}
 use Rattle.rv_machine.specs.Fields.{extended}
 use Rattle.rv_machine.specs.State.{State, register}
 use Rattle.rv_machine.specs.Effect.{effect}
-use Rattle.rv_machine.specs.Step.{gives, goes_on, jumps, branches, branches_if, taken, loaded, loads, stores, gives_if, operation, operation_immediate, executed}
+use Rattle.rv_machine.specs.Step.{gives, goes_on, jumps, branches, branches_if, taken, loaded, loads, stores, gives_if, operation}
+use Rattle.rv_machine.specs.Step.{operation_immediate, executed}
 
 lui_row : (s : State) (w r i : ℕ) → w % 128 ≡ 55 → w / 128 % 32 ≡ r → w / 4096 ≡ i → executed s w ≡ gives s r (i * 4096)
 unfolding executed
 lui_row s w r i o d e = rw (o, d, e) refl
 
-auipc_row : (s : State) (w r i : ℕ) → w % 128 ≡ 23 → w / 128 % 32 ≡ r → w / 4096 ≡ i → executed s w ≡ gives s r (plus s.pc (i * 4096))
+auipc_row : (s : State) (w r i : ℕ) → w % 128 ≡ 23 → w / 128 % 32 ≡ r → w / 4096 ≡ i
+    → executed s w ≡ gives s r (plus s.pc (i * 4096))
 unfolding executed
 auipc_row s w r i o d e = rw (o, d, e) refl
 
-jal_row : (s : State) (w r i : ℕ) → w % 128 ≡ 111 → w / 128 % 32 ≡ r → w / 2147483648 * 1048576 + w / 4096 % 256 * 4096 + w / 1048576 % 2 * 2048 + w / 2097152 % 1024 * 2 ≡ 2 * i → executed s w ≡ jumps s r (plus s.pc (extended 1048576 (2 * i)))
+jal_row : (s : State) (w r i : ℕ) → w % 128 ≡ 111 → w / 128 % 32 ≡ r
+    → w / 2147483648 * 1048576 + w / 4096 % 256 * 4096 + w / 1048576 % 2 * 2048 + w / 2097152 % 1024 * 2 ≡ 2 * i
+    → executed s w ≡ jumps s r (plus s.pc (extended 1048576 (2 * i)))
 unfolding executed
 jal_row s w r i o d e = rw (o, d, e) refl
 
-jalr_row : (s : State) (w r r1 i : ℕ) → w % 128 ≡ 103 → w / 4096 % 8 ≡ 0 → w / 128 % 32 ≡ r → w / 32768 % 32 ≡ r1 → w / 1048576 ≡ i → executed s w ≡ jumps s r (plus (register s.regs r1) (extended 2048 i) / 2 * 2)
+jalr_row : (s : State) (w r r1 i : ℕ) → w % 128 ≡ 103 → w / 4096 % 8 ≡ 0 → w / 128 % 32 ≡ r → w / 32768 % 32 ≡ r1
+    → w / 1048576 ≡ i → executed s w ≡ jumps s r (plus (register s.regs r1) (extended 2048 i) / 2 * 2)
 unfolding executed
 jalr_row s w r r1 i o f d a e = rw (o, f, d, a, e) refl
 
-beq_row : (s : State) (w r1 r2 i : ℕ) → w % 128 ≡ 99 → w / 4096 % 8 ≡ 0 → w / 32768 % 32 ≡ r1 → w / 1048576 % 32 ≡ r2 → w / 2147483648 * 4096 + w / 128 % 2 * 2048 + w / 33554432 % 64 * 32 + w / 256 % 16 * 2 ≡ 2 * i → executed s w ≡ branches s (plus s.pc (extended 4096 (2 * i))) ((register s.regs r1) == (register s.regs r2))
+beq_row : (s : State) (w r1 r2 i : ℕ) → w % 128 ≡ 99 → w / 4096 % 8 ≡ 0 → w / 32768 % 32 ≡ r1 → w / 1048576 % 32 ≡ r2
+    → w / 2147483648 * 4096 + w / 128 % 2 * 2048 + w / 33554432 % 64 * 32 + w / 256 % 16 * 2 ≡ 2 * i
+    → executed s w ≡ branches s (plus s.pc (extended 4096 (2 * i))) ((register s.regs r1) == (register s.regs r2))
 unfolding executed
 beq_row s w r1 r2 i o f a b e = rw (o, f, a, b, e) refl
 
-bne_row : (s : State) (w r1 r2 i : ℕ) → w % 128 ≡ 99 → w / 4096 % 8 ≡ 1 → w / 32768 % 32 ≡ r1 → w / 1048576 % 32 ≡ r2 → w / 2147483648 * 4096 + w / 128 % 2 * 2048 + w / 33554432 % 64 * 32 + w / 256 % 16 * 2 ≡ 2 * i → executed s w ≡ branches s (plus s.pc (extended 4096 (2 * i))) (not ((register s.regs r1) == (register s.regs r2)))
+bne_row : (s : State) (w r1 r2 i : ℕ) → w % 128 ≡ 99 → w / 4096 % 8 ≡ 1 → w / 32768 % 32 ≡ r1 → w / 1048576 % 32 ≡ r2
+    → w / 2147483648 * 4096 + w / 128 % 2 * 2048 + w / 33554432 % 64 * 32 + w / 256 % 16 * 2 ≡ 2 * i
+    → executed s w ≡ branches s (plus s.pc (extended 4096 (2 * i))) (not ((register s.regs r1) == (register s.regs r2)))
 unfolding executed
 bne_row s w r1 r2 i o f a b e = rw (o, f, a, b, e) refl
 
-blt_row : (s : State) (w r1 r2 i : ℕ) → w % 128 ≡ 99 → w / 4096 % 8 ≡ 4 → w / 32768 % 32 ≡ r1 → w / 1048576 % 32 ≡ r2 → w / 2147483648 * 4096 + w / 128 % 2 * 2048 + w / 33554432 % 64 * 32 + w / 256 % 16 * 2 ≡ 2 * i → executed s w ≡ branches s (plus s.pc (extended 4096 (2 * i))) (is_less_signed (register s.regs r1) (register s.regs r2))
+blt_row : (s : State) (w r1 r2 i : ℕ) → w % 128 ≡ 99 → w / 4096 % 8 ≡ 4 → w / 32768 % 32 ≡ r1 → w / 1048576 % 32 ≡ r2
+    → w / 2147483648 * 4096 + w / 128 % 2 * 2048 + w / 33554432 % 64 * 32 + w / 256 % 16 * 2 ≡ 2 * i
+    → executed s w ≡ branches s (plus s.pc (extended 4096 (2 * i))) (is_less_signed (register s.regs r1) (register s.regs r2))
 unfolding executed
 blt_row s w r1 r2 i o f a b e = rw (o, f, a, b, e) refl
 
-bge_row : (s : State) (w r1 r2 i : ℕ) → w % 128 ≡ 99 → w / 4096 % 8 ≡ 5 → w / 32768 % 32 ≡ r1 → w / 1048576 % 32 ≡ r2 → w / 2147483648 * 4096 + w / 128 % 2 * 2048 + w / 33554432 % 64 * 32 + w / 256 % 16 * 2 ≡ 2 * i → executed s w ≡ branches s (plus s.pc (extended 4096 (2 * i))) (not (is_less_signed (register s.regs r1) (register s.regs r2)))
+bge_row : (s : State) (w r1 r2 i : ℕ) → w % 128 ≡ 99 → w / 4096 % 8 ≡ 5 → w / 32768 % 32 ≡ r1 → w / 1048576 % 32 ≡ r2
+    → w / 2147483648 * 4096 + w / 128 % 2 * 2048 + w / 33554432 % 64 * 32 + w / 256 % 16 * 2 ≡ 2 * i
+    → executed s w ≡ branches s (plus s.pc (extended 4096 (2 * i)))
+    (not (is_less_signed (register s.regs r1) (register s.regs r2)))
 unfolding executed
 bge_row s w r1 r2 i o f a b e = rw (o, f, a, b, e) refl
 
-bltu_row : (s : State) (w r1 r2 i : ℕ) → w % 128 ≡ 99 → w / 4096 % 8 ≡ 6 → w / 32768 % 32 ≡ r1 → w / 1048576 % 32 ≡ r2 → w / 2147483648 * 4096 + w / 128 % 2 * 2048 + w / 33554432 % 64 * 32 + w / 256 % 16 * 2 ≡ 2 * i → executed s w ≡ branches s (plus s.pc (extended 4096 (2 * i))) (nat_lt (register s.regs r1) (register s.regs r2))
+bltu_row : (s : State) (w r1 r2 i : ℕ) → w % 128 ≡ 99 → w / 4096 % 8 ≡ 6 → w / 32768 % 32 ≡ r1 → w / 1048576 % 32 ≡ r2
+    → w / 2147483648 * 4096 + w / 128 % 2 * 2048 + w / 33554432 % 64 * 32 + w / 256 % 16 * 2 ≡ 2 * i
+    → executed s w ≡ branches s (plus s.pc (extended 4096 (2 * i))) (nat_lt (register s.regs r1) (register s.regs r2))
 unfolding executed
 bltu_row s w r1 r2 i o f a b e = rw (o, f, a, b, e) refl
 
-bgeu_row : (s : State) (w r1 r2 i : ℕ) → w % 128 ≡ 99 → w / 4096 % 8 ≡ 7 → w / 32768 % 32 ≡ r1 → w / 1048576 % 32 ≡ r2 → w / 2147483648 * 4096 + w / 128 % 2 * 2048 + w / 33554432 % 64 * 32 + w / 256 % 16 * 2 ≡ 2 * i → executed s w ≡ branches s (plus s.pc (extended 4096 (2 * i))) (not (nat_lt (register s.regs r1) (register s.regs r2)))
+bgeu_row : (s : State) (w r1 r2 i : ℕ) → w % 128 ≡ 99 → w / 4096 % 8 ≡ 7 → w / 32768 % 32 ≡ r1 → w / 1048576 % 32 ≡ r2
+    → w / 2147483648 * 4096 + w / 128 % 2 * 2048 + w / 33554432 % 64 * 32 + w / 256 % 16 * 2 ≡ 2 * i
+    → executed s w ≡ branches s (plus s.pc (extended 4096 (2 * i))) (not (nat_lt (register s.regs r1) (register s.regs r2)))
 unfolding executed
 bgeu_row s w r1 r2 i o f a b e = rw (o, f, a, b, e) refl
 
-lb_row : (s : State) (w r r1 i : ℕ) → w % 128 ≡ 3 → w / 4096 % 8 ≡ 0 → w / 128 % 32 ≡ r → w / 32768 % 32 ≡ r1 → w / 1048576 ≡ i → executed s w ≡ loads s r (extended 128) (loaded s 1 (plus (register s.regs r1) (extended 2048 i)))
+lb_row : (s : State) (w r r1 i : ℕ) → w % 128 ≡ 3 → w / 4096 % 8 ≡ 0 → w / 128 % 32 ≡ r → w / 32768 % 32 ≡ r1 → w / 1048576 ≡ i
+    → executed s w ≡ loads s r (extended 128) (loaded s 1 (plus (register s.regs r1) (extended 2048 i)))
 unfolding executed
 lb_row s w r r1 i o f d a e = rw (o, f, d, a, e) refl
 
-lh_row : (s : State) (w r r1 i : ℕ) → w % 128 ≡ 3 → w / 4096 % 8 ≡ 1 → w / 128 % 32 ≡ r → w / 32768 % 32 ≡ r1 → w / 1048576 ≡ i → executed s w ≡ loads s r (extended 32768) (loaded s 2 (plus (register s.regs r1) (extended 2048 i)))
+lh_row : (s : State) (w r r1 i : ℕ) → w % 128 ≡ 3 → w / 4096 % 8 ≡ 1 → w / 128 % 32 ≡ r → w / 32768 % 32 ≡ r1 → w / 1048576 ≡ i
+    → executed s w ≡ loads s r (extended 32768) (loaded s 2 (plus (register s.regs r1) (extended 2048 i)))
 unfolding executed
 lh_row s w r r1 i o f d a e = rw (o, f, d, a, e) refl
 
-lw_row : (s : State) (w r r1 i : ℕ) → w % 128 ≡ 3 → w / 4096 % 8 ≡ 2 → w / 128 % 32 ≡ r → w / 32768 % 32 ≡ r1 → w / 1048576 ≡ i → executed s w ≡ loads s r (λ n. n) (loaded s 4 (plus (register s.regs r1) (extended 2048 i)))
+lw_row : (s : State) (w r r1 i : ℕ) → w % 128 ≡ 3 → w / 4096 % 8 ≡ 2 → w / 128 % 32 ≡ r → w / 32768 % 32 ≡ r1 → w / 1048576 ≡ i
+    → executed s w ≡ loads s r (λ n. n) (loaded s 4 (plus (register s.regs r1) (extended 2048 i)))
 unfolding executed
 lw_row s w r r1 i o f d a e = rw (o, f, d, a, e) refl
 
-lbu_row : (s : State) (w r r1 i : ℕ) → w % 128 ≡ 3 → w / 4096 % 8 ≡ 4 → w / 128 % 32 ≡ r → w / 32768 % 32 ≡ r1 → w / 1048576 ≡ i → executed s w ≡ loads s r (λ n. n) (loaded s 1 (plus (register s.regs r1) (extended 2048 i)))
+lbu_row : (s : State) (w r r1 i : ℕ) → w % 128 ≡ 3 → w / 4096 % 8 ≡ 4 → w / 128 % 32 ≡ r → w / 32768 % 32 ≡ r1 → w / 1048576 ≡ i
+    → executed s w ≡ loads s r (λ n. n) (loaded s 1 (plus (register s.regs r1) (extended 2048 i)))
 unfolding executed
 lbu_row s w r r1 i o f d a e = rw (o, f, d, a, e) refl
 
-lhu_row : (s : State) (w r r1 i : ℕ) → w % 128 ≡ 3 → w / 4096 % 8 ≡ 5 → w / 128 % 32 ≡ r → w / 32768 % 32 ≡ r1 → w / 1048576 ≡ i → executed s w ≡ loads s r (λ n. n) (loaded s 2 (plus (register s.regs r1) (extended 2048 i)))
+lhu_row : (s : State) (w r r1 i : ℕ) → w % 128 ≡ 3 → w / 4096 % 8 ≡ 5 → w / 128 % 32 ≡ r → w / 32768 % 32 ≡ r1 → w / 1048576 ≡ i
+    → executed s w ≡ loads s r (λ n. n) (loaded s 2 (plus (register s.regs r1) (extended 2048 i)))
 unfolding executed
 lhu_row s w r r1 i o f d a e = rw (o, f, d, a, e) refl
 
-sb_row : (s : State) (w r1 r2 i : ℕ) → w % 128 ≡ 35 → w / 4096 % 8 ≡ 0 → w / 32768 % 32 ≡ r1 → w / 1048576 % 32 ≡ r2 → w / 33554432 * 32 + w / 128 % 32 ≡ i → executed s w ≡ stores s 1 (plus (register s.regs r1) (extended 2048 i)) (register s.regs r2)
+sb_row : (s : State) (w r1 r2 i : ℕ) → w % 128 ≡ 35 → w / 4096 % 8 ≡ 0 → w / 32768 % 32 ≡ r1 → w / 1048576 % 32 ≡ r2
+    → w / 33554432 * 32 + w / 128 % 32 ≡ i
+    → executed s w ≡ stores s 1 (plus (register s.regs r1) (extended 2048 i)) (register s.regs r2)
 unfolding executed
 sb_row s w r1 r2 i o f a b e = rw (o, f, a, b, e) refl
 
-sh_row : (s : State) (w r1 r2 i : ℕ) → w % 128 ≡ 35 → w / 4096 % 8 ≡ 1 → w / 32768 % 32 ≡ r1 → w / 1048576 % 32 ≡ r2 → w / 33554432 * 32 + w / 128 % 32 ≡ i → executed s w ≡ stores s 2 (plus (register s.regs r1) (extended 2048 i)) (register s.regs r2)
+sh_row : (s : State) (w r1 r2 i : ℕ) → w % 128 ≡ 35 → w / 4096 % 8 ≡ 1 → w / 32768 % 32 ≡ r1 → w / 1048576 % 32 ≡ r2
+    → w / 33554432 * 32 + w / 128 % 32 ≡ i
+    → executed s w ≡ stores s 2 (plus (register s.regs r1) (extended 2048 i)) (register s.regs r2)
 unfolding executed
 sh_row s w r1 r2 i o f a b e = rw (o, f, a, b, e) refl
 
-sw_row : (s : State) (w r1 r2 i : ℕ) → w % 128 ≡ 35 → w / 4096 % 8 ≡ 2 → w / 32768 % 32 ≡ r1 → w / 1048576 % 32 ≡ r2 → w / 33554432 * 32 + w / 128 % 32 ≡ i → executed s w ≡ stores s 4 (plus (register s.regs r1) (extended 2048 i)) (register s.regs r2)
+sw_row : (s : State) (w r1 r2 i : ℕ) → w % 128 ≡ 35 → w / 4096 % 8 ≡ 2 → w / 32768 % 32 ≡ r1 → w / 1048576 % 32 ≡ r2
+    → w / 33554432 * 32 + w / 128 % 32 ≡ i
+    → executed s w ≡ stores s 4 (plus (register s.regs r1) (extended 2048 i)) (register s.regs r2)
 unfolding executed
 sw_row s w r1 r2 i o f a b e = rw (o, f, a, b, e) refl
 
-addi_row : (s : State) (w r r1 i : ℕ) → w % 128 ≡ 19 → w / 4096 % 8 ≡ 0 → w / 128 % 32 ≡ r → w / 32768 % 32 ≡ r1 → w / 1048576 ≡ i → executed s w ≡ gives s r (plus (register s.regs r1) (extended 2048 i))
+addi_row : (s : State) (w r r1 i : ℕ) → w % 128 ≡ 19 → w / 4096 % 8 ≡ 0 → w / 128 % 32 ≡ r → w / 32768 % 32 ≡ r1 → w / 1048576 ≡ i
+    → executed s w ≡ gives s r (plus (register s.regs r1) (extended 2048 i))
 unfolding executed
 addi_row s w r r1 i o f d a e = rw (o, f, d, a, e) refl
 
-slti_row : (s : State) (w r r1 i : ℕ) → w % 128 ≡ 19 → w / 4096 % 8 ≡ 2 → w / 128 % 32 ≡ r → w / 32768 % 32 ≡ r1 → w / 1048576 ≡ i → executed s w ≡ gives s r (less_signed (register s.regs r1) (extended 2048 i))
+slti_row : (s : State) (w r r1 i : ℕ) → w % 128 ≡ 19 → w / 4096 % 8 ≡ 2 → w / 128 % 32 ≡ r → w / 32768 % 32 ≡ r1 → w / 1048576 ≡ i
+    → executed s w ≡ gives s r (less_signed (register s.regs r1) (extended 2048 i))
 unfolding executed
 slti_row s w r r1 i o f d a e = rw (o, f, d, a, e) refl
 
-sltiu_row : (s : State) (w r r1 i : ℕ) → w % 128 ≡ 19 → w / 4096 % 8 ≡ 3 → w / 128 % 32 ≡ r → w / 32768 % 32 ≡ r1 → w / 1048576 ≡ i → executed s w ≡ gives s r (less (register s.regs r1) (extended 2048 i))
+sltiu_row : (s : State) (w r r1 i : ℕ) → w % 128 ≡ 19 → w / 4096 % 8 ≡ 3 → w / 128 % 32 ≡ r → w / 32768 % 32 ≡ r1
+    → w / 1048576 ≡ i → executed s w ≡ gives s r (less (register s.regs r1) (extended 2048 i))
 unfolding executed
 sltiu_row s w r r1 i o f d a e = rw (o, f, d, a, e) refl
 
-xori_row : (s : State) (w r r1 i : ℕ) → w % 128 ≡ 19 → w / 4096 % 8 ≡ 4 → w / 128 % 32 ≡ r → w / 32768 % 32 ≡ r1 → w / 1048576 ≡ i → executed s w ≡ gives s r (bit_xor (register s.regs r1) (extended 2048 i))
+xori_row : (s : State) (w r r1 i : ℕ) → w % 128 ≡ 19 → w / 4096 % 8 ≡ 4 → w / 128 % 32 ≡ r → w / 32768 % 32 ≡ r1 → w / 1048576 ≡ i
+    → executed s w ≡ gives s r (bit_xor (register s.regs r1) (extended 2048 i))
 unfolding executed
 xori_row s w r r1 i o f d a e = rw (o, f, d, a, e) refl
 
-ori_row : (s : State) (w r r1 i : ℕ) → w % 128 ≡ 19 → w / 4096 % 8 ≡ 6 → w / 128 % 32 ≡ r → w / 32768 % 32 ≡ r1 → w / 1048576 ≡ i → executed s w ≡ gives s r (bit_or (register s.regs r1) (extended 2048 i))
+ori_row : (s : State) (w r r1 i : ℕ) → w % 128 ≡ 19 → w / 4096 % 8 ≡ 6 → w / 128 % 32 ≡ r → w / 32768 % 32 ≡ r1 → w / 1048576 ≡ i
+    → executed s w ≡ gives s r (bit_or (register s.regs r1) (extended 2048 i))
 unfolding executed
 ori_row s w r r1 i o f d a e = rw (o, f, d, a, e) refl
 
-andi_row : (s : State) (w r r1 i : ℕ) → w % 128 ≡ 19 → w / 4096 % 8 ≡ 7 → w / 128 % 32 ≡ r → w / 32768 % 32 ≡ r1 → w / 1048576 ≡ i → executed s w ≡ gives s r (bit_and (register s.regs r1) (extended 2048 i))
+andi_row : (s : State) (w r r1 i : ℕ) → w % 128 ≡ 19 → w / 4096 % 8 ≡ 7 → w / 128 % 32 ≡ r → w / 32768 % 32 ≡ r1 → w / 1048576 ≡ i
+    → executed s w ≡ gives s r (bit_and (register s.regs r1) (extended 2048 i))
 unfolding executed
 andi_row s w r r1 i o f d a e = rw (o, f, d, a, e) refl
 
-slli_row : (s : State) (w r r1 r2 : ℕ) → w % 128 ≡ 19 → w / 4096 % 8 ≡ 1 → w / 33554432 ≡ 0 → w / 128 % 32 ≡ r → w / 32768 % 32 ≡ r1 → w / 1048576 % 32 ≡ r2 → executed s w ≡ gives s r (shifted_left (register s.regs r1) r2)
+slli_row : (s : State) (w r r1 r2 : ℕ) → w % 128 ≡ 19 → w / 4096 % 8 ≡ 1 → w / 33554432 ≡ 0 → w / 128 % 32 ≡ r
+    → w / 32768 % 32 ≡ r1 → w / 1048576 % 32 ≡ r2 → executed s w ≡ gives s r (shifted_left (register s.regs r1) r2)
 unfolding executed
 slli_row s w r r1 r2 o f g d a b = rw (o, f, g, d, a, b) refl
 
-srli_row : (s : State) (w r r1 r2 : ℕ) → w % 128 ≡ 19 → w / 4096 % 8 ≡ 5 → w / 33554432 ≡ 0 → w / 128 % 32 ≡ r → w / 32768 % 32 ≡ r1 → w / 1048576 % 32 ≡ r2 → executed s w ≡ gives s r (shifted_right (register s.regs r1) r2)
+srli_row : (s : State) (w r r1 r2 : ℕ) → w % 128 ≡ 19 → w / 4096 % 8 ≡ 5 → w / 33554432 ≡ 0 → w / 128 % 32 ≡ r
+    → w / 32768 % 32 ≡ r1 → w / 1048576 % 32 ≡ r2 → executed s w ≡ gives s r (shifted_right (register s.regs r1) r2)
 unfolding executed
 srli_row s w r r1 r2 o f g d a b = rw (o, f, g, d, a, b) refl
 
-srai_row : (s : State) (w r r1 r2 : ℕ) → w % 128 ≡ 19 → w / 4096 % 8 ≡ 5 → w / 33554432 ≡ 32 → w / 128 % 32 ≡ r → w / 32768 % 32 ≡ r1 → w / 1048576 % 32 ≡ r2 → executed s w ≡ gives s r (shifted_signed (register s.regs r1) r2)
+srai_row : (s : State) (w r r1 r2 : ℕ) → w % 128 ≡ 19 → w / 4096 % 8 ≡ 5 → w / 33554432 ≡ 32 → w / 128 % 32 ≡ r
+    → w / 32768 % 32 ≡ r1 → w / 1048576 % 32 ≡ r2 → executed s w ≡ gives s r (shifted_signed (register s.regs r1) r2)
 unfolding executed
 srai_row s w r r1 r2 o f g d a b = rw (o, f, g, d, a, b) refl
 
-add_row : (s : State) (w r r1 r2 : ℕ) → w % 128 ≡ 51 → w / 4096 % 8 ≡ 0 → w / 33554432 ≡ 0 → w / 128 % 32 ≡ r → w / 32768 % 32 ≡ r1 → w / 1048576 % 32 ≡ r2 → executed s w ≡ gives s r (plus (register s.regs r1) (register s.regs r2))
+add_row : (s : State) (w r r1 r2 : ℕ) → w % 128 ≡ 51 → w / 4096 % 8 ≡ 0 → w / 33554432 ≡ 0 → w / 128 % 32 ≡ r
+    → w / 32768 % 32 ≡ r1 → w / 1048576 % 32 ≡ r2 → executed s w ≡ gives s r (plus (register s.regs r1) (register s.regs r2))
 unfolding executed
 add_row s w r r1 r2 o f g d a b = rw (o, f, g, d, a, b) refl
 
-sub_row : (s : State) (w r r1 r2 : ℕ) → w % 128 ≡ 51 → w / 4096 % 8 ≡ 0 → w / 33554432 ≡ 32 → w / 128 % 32 ≡ r → w / 32768 % 32 ≡ r1 → w / 1048576 % 32 ≡ r2 → executed s w ≡ gives s r (minus (register s.regs r1) (register s.regs r2))
+sub_row : (s : State) (w r r1 r2 : ℕ) → w % 128 ≡ 51 → w / 4096 % 8 ≡ 0 → w / 33554432 ≡ 32 → w / 128 % 32 ≡ r
+    → w / 32768 % 32 ≡ r1 → w / 1048576 % 32 ≡ r2 → executed s w ≡ gives s r (minus (register s.regs r1) (register s.regs r2))
 unfolding executed
 sub_row s w r r1 r2 o f g d a b = rw (o, f, g, d, a, b) refl
 
-sll_row : (s : State) (w r r1 r2 : ℕ) → w % 128 ≡ 51 → w / 4096 % 8 ≡ 1 → w / 33554432 ≡ 0 → w / 128 % 32 ≡ r → w / 32768 % 32 ≡ r1 → w / 1048576 % 32 ≡ r2 → executed s w ≡ gives s r (shifted_left (register s.regs r1) (register s.regs r2))
+sll_row : (s : State) (w r r1 r2 : ℕ) → w % 128 ≡ 51 → w / 4096 % 8 ≡ 1 → w / 33554432 ≡ 0 → w / 128 % 32 ≡ r
+    → w / 32768 % 32 ≡ r1 → w / 1048576 % 32 ≡ r2
+    → executed s w ≡ gives s r (shifted_left (register s.regs r1) (register s.regs r2))
 unfolding executed
 sll_row s w r r1 r2 o f g d a b = rw (o, f, g, d, a, b) refl
 
-slt_row : (s : State) (w r r1 r2 : ℕ) → w % 128 ≡ 51 → w / 4096 % 8 ≡ 2 → w / 33554432 ≡ 0 → w / 128 % 32 ≡ r → w / 32768 % 32 ≡ r1 → w / 1048576 % 32 ≡ r2 → executed s w ≡ gives s r (less_signed (register s.regs r1) (register s.regs r2))
+slt_row : (s : State) (w r r1 r2 : ℕ) → w % 128 ≡ 51 → w / 4096 % 8 ≡ 2 → w / 33554432 ≡ 0 → w / 128 % 32 ≡ r
+    → w / 32768 % 32 ≡ r1 → w / 1048576 % 32 ≡ r2
+    → executed s w ≡ gives s r (less_signed (register s.regs r1) (register s.regs r2))
 unfolding executed
 slt_row s w r r1 r2 o f g d a b = rw (o, f, g, d, a, b) refl
 
-sltu_row : (s : State) (w r r1 r2 : ℕ) → w % 128 ≡ 51 → w / 4096 % 8 ≡ 3 → w / 33554432 ≡ 0 → w / 128 % 32 ≡ r → w / 32768 % 32 ≡ r1 → w / 1048576 % 32 ≡ r2 → executed s w ≡ gives s r (less (register s.regs r1) (register s.regs r2))
+sltu_row : (s : State) (w r r1 r2 : ℕ) → w % 128 ≡ 51 → w / 4096 % 8 ≡ 3 → w / 33554432 ≡ 0 → w / 128 % 32 ≡ r
+    → w / 32768 % 32 ≡ r1 → w / 1048576 % 32 ≡ r2 → executed s w ≡ gives s r (less (register s.regs r1) (register s.regs r2))
 unfolding executed
 sltu_row s w r r1 r2 o f g d a b = rw (o, f, g, d, a, b) refl
 
-xor_row : (s : State) (w r r1 r2 : ℕ) → w % 128 ≡ 51 → w / 4096 % 8 ≡ 4 → w / 33554432 ≡ 0 → w / 128 % 32 ≡ r → w / 32768 % 32 ≡ r1 → w / 1048576 % 32 ≡ r2 → executed s w ≡ gives s r (bit_xor (register s.regs r1) (register s.regs r2))
+xor_row : (s : State) (w r r1 r2 : ℕ) → w % 128 ≡ 51 → w / 4096 % 8 ≡ 4 → w / 33554432 ≡ 0 → w / 128 % 32 ≡ r
+    → w / 32768 % 32 ≡ r1 → w / 1048576 % 32 ≡ r2 → executed s w ≡ gives s r (bit_xor (register s.regs r1) (register s.regs r2))
 unfolding executed
 xor_row s w r r1 r2 o f g d a b = rw (o, f, g, d, a, b) refl
 
-srl_row : (s : State) (w r r1 r2 : ℕ) → w % 128 ≡ 51 → w / 4096 % 8 ≡ 5 → w / 33554432 ≡ 0 → w / 128 % 32 ≡ r → w / 32768 % 32 ≡ r1 → w / 1048576 % 32 ≡ r2 → executed s w ≡ gives s r (shifted_right (register s.regs r1) (register s.regs r2))
+srl_row : (s : State) (w r r1 r2 : ℕ) → w % 128 ≡ 51 → w / 4096 % 8 ≡ 5 → w / 33554432 ≡ 0 → w / 128 % 32 ≡ r
+    → w / 32768 % 32 ≡ r1 → w / 1048576 % 32 ≡ r2
+    → executed s w ≡ gives s r (shifted_right (register s.regs r1) (register s.regs r2))
 unfolding executed
 srl_row s w r r1 r2 o f g d a b = rw (o, f, g, d, a, b) refl
 
-sra_row : (s : State) (w r r1 r2 : ℕ) → w % 128 ≡ 51 → w / 4096 % 8 ≡ 5 → w / 33554432 ≡ 32 → w / 128 % 32 ≡ r → w / 32768 % 32 ≡ r1 → w / 1048576 % 32 ≡ r2 → executed s w ≡ gives s r (shifted_signed (register s.regs r1) (register s.regs r2))
+sra_row : (s : State) (w r r1 r2 : ℕ) → w % 128 ≡ 51 → w / 4096 % 8 ≡ 5 → w / 33554432 ≡ 32 → w / 128 % 32 ≡ r
+    → w / 32768 % 32 ≡ r1 → w / 1048576 % 32 ≡ r2
+    → executed s w ≡ gives s r (shifted_signed (register s.regs r1) (register s.regs r2))
 unfolding executed
 sra_row s w r r1 r2 o f g d a b = rw (o, f, g, d, a, b) refl
 
-or_row : (s : State) (w r r1 r2 : ℕ) → w % 128 ≡ 51 → w / 4096 % 8 ≡ 6 → w / 33554432 ≡ 0 → w / 128 % 32 ≡ r → w / 32768 % 32 ≡ r1 → w / 1048576 % 32 ≡ r2 → executed s w ≡ gives s r (bit_or (register s.regs r1) (register s.regs r2))
+or_row : (s : State) (w r r1 r2 : ℕ) → w % 128 ≡ 51 → w / 4096 % 8 ≡ 6 → w / 33554432 ≡ 0 → w / 128 % 32 ≡ r → w / 32768 % 32 ≡ r1
+    → w / 1048576 % 32 ≡ r2 → executed s w ≡ gives s r (bit_or (register s.regs r1) (register s.regs r2))
 unfolding executed
 or_row s w r r1 r2 o f g d a b = rw (o, f, g, d, a, b) refl
 
-and_row : (s : State) (w r r1 r2 : ℕ) → w % 128 ≡ 51 → w / 4096 % 8 ≡ 7 → w / 33554432 ≡ 0 → w / 128 % 32 ≡ r → w / 32768 % 32 ≡ r1 → w / 1048576 % 32 ≡ r2 → executed s w ≡ gives s r (bit_and (register s.regs r1) (register s.regs r2))
+and_row : (s : State) (w r r1 r2 : ℕ) → w % 128 ≡ 51 → w / 4096 % 8 ≡ 7 → w / 33554432 ≡ 0 → w / 128 % 32 ≡ r
+    → w / 32768 % 32 ≡ r1 → w / 1048576 % 32 ≡ r2 → executed s w ≡ gives s r (bit_and (register s.regs r1) (register s.regs r2))
 unfolding executed
 and_row s w r r1 r2 o f g d a b = rw (o, f, g, d, a, b) refl
 
-mul_row : (s : State) (w r r1 r2 : ℕ) → w % 128 ≡ 51 → w / 4096 % 8 ≡ 0 → w / 33554432 ≡ 1 → w / 128 % 32 ≡ r → w / 32768 % 32 ≡ r1 → w / 1048576 % 32 ≡ r2 → executed s w ≡ gives s r (product (register s.regs r1) (register s.regs r2))
+mul_row : (s : State) (w r r1 r2 : ℕ) → w % 128 ≡ 51 → w / 4096 % 8 ≡ 0 → w / 33554432 ≡ 1 → w / 128 % 32 ≡ r
+    → w / 32768 % 32 ≡ r1 → w / 1048576 % 32 ≡ r2 → executed s w ≡ gives s r (product (register s.regs r1) (register s.regs r2))
 unfolding executed
 mul_row s w r r1 r2 o f g d a b = rw (o, f, g, d, a, b) refl
 
-mulh_row : (s : State) (w r r1 r2 : ℕ) → w % 128 ≡ 51 → w / 4096 % 8 ≡ 1 → w / 33554432 ≡ 1 → w / 128 % 32 ≡ r → w / 32768 % 32 ≡ r1 → w / 1048576 % 32 ≡ r2 → executed s w ≡ gives s r (high_signed (register s.regs r1) (register s.regs r2))
+mulh_row : (s : State) (w r r1 r2 : ℕ) → w % 128 ≡ 51 → w / 4096 % 8 ≡ 1 → w / 33554432 ≡ 1 → w / 128 % 32 ≡ r
+    → w / 32768 % 32 ≡ r1 → w / 1048576 % 32 ≡ r2
+    → executed s w ≡ gives s r (high_signed (register s.regs r1) (register s.regs r2))
 unfolding executed
 mulh_row s w r r1 r2 o f g d a b = rw (o, f, g, d, a, b) refl
 
-mulhsu_row : (s : State) (w r r1 r2 : ℕ) → w % 128 ≡ 51 → w / 4096 % 8 ≡ 2 → w / 33554432 ≡ 1 → w / 128 % 32 ≡ r → w / 32768 % 32 ≡ r1 → w / 1048576 % 32 ≡ r2 → executed s w ≡ gives s r (high_mixed (register s.regs r1) (register s.regs r2))
+mulhsu_row : (s : State) (w r r1 r2 : ℕ) → w % 128 ≡ 51 → w / 4096 % 8 ≡ 2 → w / 33554432 ≡ 1 → w / 128 % 32 ≡ r
+    → w / 32768 % 32 ≡ r1 → w / 1048576 % 32 ≡ r2
+    → executed s w ≡ gives s r (high_mixed (register s.regs r1) (register s.regs r2))
 unfolding executed
 mulhsu_row s w r r1 r2 o f g d a b = rw (o, f, g, d, a, b) refl
 
-mulhu_row : (s : State) (w r r1 r2 : ℕ) → w % 128 ≡ 51 → w / 4096 % 8 ≡ 3 → w / 33554432 ≡ 1 → w / 128 % 32 ≡ r → w / 32768 % 32 ≡ r1 → w / 1048576 % 32 ≡ r2 → executed s w ≡ gives s r (high_unsigned (register s.regs r1) (register s.regs r2))
+mulhu_row : (s : State) (w r r1 r2 : ℕ) → w % 128 ≡ 51 → w / 4096 % 8 ≡ 3 → w / 33554432 ≡ 1 → w / 128 % 32 ≡ r
+    → w / 32768 % 32 ≡ r1 → w / 1048576 % 32 ≡ r2
+    → executed s w ≡ gives s r (high_unsigned (register s.regs r1) (register s.regs r2))
 unfolding executed
 mulhu_row s w r r1 r2 o f g d a b = rw (o, f, g, d, a, b) refl
 
-div_row : (s : State) (w r r1 r2 : ℕ) → w % 128 ≡ 51 → w / 4096 % 8 ≡ 4 → w / 33554432 ≡ 1 → w / 128 % 32 ≡ r → w / 32768 % 32 ≡ r1 → w / 1048576 % 32 ≡ r2 → executed s w ≡ gives s r (quotient_signed (register s.regs r1) (register s.regs r2))
+div_row : (s : State) (w r r1 r2 : ℕ) → w % 128 ≡ 51 → w / 4096 % 8 ≡ 4 → w / 33554432 ≡ 1 → w / 128 % 32 ≡ r
+    → w / 32768 % 32 ≡ r1 → w / 1048576 % 32 ≡ r2
+    → executed s w ≡ gives s r (quotient_signed (register s.regs r1) (register s.regs r2))
 unfolding executed
 div_row s w r r1 r2 o f g d a b = rw (o, f, g, d, a, b) refl
 
-divu_row : (s : State) (w r r1 r2 : ℕ) → w % 128 ≡ 51 → w / 4096 % 8 ≡ 5 → w / 33554432 ≡ 1 → w / 128 % 32 ≡ r → w / 32768 % 32 ≡ r1 → w / 1048576 % 32 ≡ r2 → executed s w ≡ gives s r (quotient (register s.regs r1) (register s.regs r2))
+divu_row : (s : State) (w r r1 r2 : ℕ) → w % 128 ≡ 51 → w / 4096 % 8 ≡ 5 → w / 33554432 ≡ 1 → w / 128 % 32 ≡ r
+    → w / 32768 % 32 ≡ r1 → w / 1048576 % 32 ≡ r2 → executed s w ≡ gives s r (quotient (register s.regs r1) (register s.regs r2))
 unfolding executed
 divu_row s w r r1 r2 o f g d a b = rw (o, f, g, d, a, b) refl
 
-rem_row : (s : State) (w r r1 r2 : ℕ) → w % 128 ≡ 51 → w / 4096 % 8 ≡ 6 → w / 33554432 ≡ 1 → w / 128 % 32 ≡ r → w / 32768 % 32 ≡ r1 → w / 1048576 % 32 ≡ r2 → executed s w ≡ gives s r (remainder_signed (register s.regs r1) (register s.regs r2))
+rem_row : (s : State) (w r r1 r2 : ℕ) → w % 128 ≡ 51 → w / 4096 % 8 ≡ 6 → w / 33554432 ≡ 1 → w / 128 % 32 ≡ r
+    → w / 32768 % 32 ≡ r1 → w / 1048576 % 32 ≡ r2
+    → executed s w ≡ gives s r (remainder_signed (register s.regs r1) (register s.regs r2))
 unfolding executed
 rem_row s w r r1 r2 o f g d a b = rw (o, f, g, d, a, b) refl
 
-remu_row : (s : State) (w r r1 r2 : ℕ) → w % 128 ≡ 51 → w / 4096 % 8 ≡ 7 → w / 33554432 ≡ 1 → w / 128 % 32 ≡ r → w / 32768 % 32 ≡ r1 → w / 1048576 % 32 ≡ r2 → executed s w ≡ gives s r (remainder (register s.regs r1) (register s.regs r2))
+remu_row : (s : State) (w r r1 r2 : ℕ) → w % 128 ≡ 51 → w / 4096 % 8 ≡ 7 → w / 33554432 ≡ 1 → w / 128 % 32 ≡ r
+    → w / 32768 % 32 ≡ r1 → w / 1048576 % 32 ≡ r2 → executed s w ≡ gives s r (remainder (register s.regs r1) (register s.regs r2))
 unfolding executed
 remu_row s w r r1 r2 o f g d a b = rw (o, f, g, d, a, b) refl
 
@@ -207,52 +279,144 @@ ebreak_row s = refl
 
 -- the word of an instruction does what the instruction does
 pub row_of : (s : State) (i : Instr) → executed s (word_of i) ≡ effect i s
-row_of s (Lui rd imm) = lui_row s (word_of (Lui rd imm)) rd.bits imm.bits (omega (arith, rd.ok, imm.ok)) (omega (arith, rd.ok, imm.ok)) (omega (arith, rd.ok, imm.ok))
-row_of s (Auipc rd imm) = auipc_row s (word_of (Auipc rd imm)) rd.bits imm.bits (omega (arith, rd.ok, imm.ok)) (omega (arith, rd.ok, imm.ok)) (omega (arith, rd.ok, imm.ok))
-row_of s (Jal rd imm) = jal_row s (word_of (Jal rd imm)) rd.bits imm.half (omega (arith, rd.ok, imm.ok)) (omega (arith, rd.ok, imm.ok)) (omega (arith, rd.ok, imm.ok))
-row_of s (Jalr rd rs1 imm) = jalr_row s (word_of (Jalr rd rs1 imm)) rd.bits rs1.bits imm.bits (omega (arith, rd.ok, rs1.ok, imm.ok)) (omega (arith, rd.ok, rs1.ok, imm.ok)) (omega (arith, rd.ok, rs1.ok, imm.ok)) (omega (arith, rd.ok, rs1.ok, imm.ok)) (omega (arith, rd.ok, rs1.ok, imm.ok))
-row_of s (Beq rs1 rs2 imm) = beq_row s (word_of (Beq rs1 rs2 imm)) rs1.bits rs2.bits imm.half (omega (arith, rs1.ok, rs2.ok, imm.ok)) (omega (arith, rs1.ok, rs2.ok, imm.ok)) (omega (arith, rs1.ok, rs2.ok, imm.ok)) (omega (arith, rs1.ok, rs2.ok, imm.ok)) (omega (arith, rs1.ok, rs2.ok, imm.ok))
-row_of s (Bne rs1 rs2 imm) = bne_row s (word_of (Bne rs1 rs2 imm)) rs1.bits rs2.bits imm.half (omega (arith, rs1.ok, rs2.ok, imm.ok)) (omega (arith, rs1.ok, rs2.ok, imm.ok)) (omega (arith, rs1.ok, rs2.ok, imm.ok)) (omega (arith, rs1.ok, rs2.ok, imm.ok)) (omega (arith, rs1.ok, rs2.ok, imm.ok))
-row_of s (Blt rs1 rs2 imm) = blt_row s (word_of (Blt rs1 rs2 imm)) rs1.bits rs2.bits imm.half (omega (arith, rs1.ok, rs2.ok, imm.ok)) (omega (arith, rs1.ok, rs2.ok, imm.ok)) (omega (arith, rs1.ok, rs2.ok, imm.ok)) (omega (arith, rs1.ok, rs2.ok, imm.ok)) (omega (arith, rs1.ok, rs2.ok, imm.ok))
-row_of s (Bge rs1 rs2 imm) = bge_row s (word_of (Bge rs1 rs2 imm)) rs1.bits rs2.bits imm.half (omega (arith, rs1.ok, rs2.ok, imm.ok)) (omega (arith, rs1.ok, rs2.ok, imm.ok)) (omega (arith, rs1.ok, rs2.ok, imm.ok)) (omega (arith, rs1.ok, rs2.ok, imm.ok)) (omega (arith, rs1.ok, rs2.ok, imm.ok))
-row_of s (Bltu rs1 rs2 imm) = bltu_row s (word_of (Bltu rs1 rs2 imm)) rs1.bits rs2.bits imm.half (omega (arith, rs1.ok, rs2.ok, imm.ok)) (omega (arith, rs1.ok, rs2.ok, imm.ok)) (omega (arith, rs1.ok, rs2.ok, imm.ok)) (omega (arith, rs1.ok, rs2.ok, imm.ok)) (omega (arith, rs1.ok, rs2.ok, imm.ok))
-row_of s (Bgeu rs1 rs2 imm) = bgeu_row s (word_of (Bgeu rs1 rs2 imm)) rs1.bits rs2.bits imm.half (omega (arith, rs1.ok, rs2.ok, imm.ok)) (omega (arith, rs1.ok, rs2.ok, imm.ok)) (omega (arith, rs1.ok, rs2.ok, imm.ok)) (omega (arith, rs1.ok, rs2.ok, imm.ok)) (omega (arith, rs1.ok, rs2.ok, imm.ok))
-row_of s (Lb rd rs1 imm) = lb_row s (word_of (Lb rd rs1 imm)) rd.bits rs1.bits imm.bits (omega (arith, rd.ok, rs1.ok, imm.ok)) (omega (arith, rd.ok, rs1.ok, imm.ok)) (omega (arith, rd.ok, rs1.ok, imm.ok)) (omega (arith, rd.ok, rs1.ok, imm.ok)) (omega (arith, rd.ok, rs1.ok, imm.ok))
-row_of s (Lh rd rs1 imm) = lh_row s (word_of (Lh rd rs1 imm)) rd.bits rs1.bits imm.bits (omega (arith, rd.ok, rs1.ok, imm.ok)) (omega (arith, rd.ok, rs1.ok, imm.ok)) (omega (arith, rd.ok, rs1.ok, imm.ok)) (omega (arith, rd.ok, rs1.ok, imm.ok)) (omega (arith, rd.ok, rs1.ok, imm.ok))
-row_of s (Lw rd rs1 imm) = lw_row s (word_of (Lw rd rs1 imm)) rd.bits rs1.bits imm.bits (omega (arith, rd.ok, rs1.ok, imm.ok)) (omega (arith, rd.ok, rs1.ok, imm.ok)) (omega (arith, rd.ok, rs1.ok, imm.ok)) (omega (arith, rd.ok, rs1.ok, imm.ok)) (omega (arith, rd.ok, rs1.ok, imm.ok))
-row_of s (Lbu rd rs1 imm) = lbu_row s (word_of (Lbu rd rs1 imm)) rd.bits rs1.bits imm.bits (omega (arith, rd.ok, rs1.ok, imm.ok)) (omega (arith, rd.ok, rs1.ok, imm.ok)) (omega (arith, rd.ok, rs1.ok, imm.ok)) (omega (arith, rd.ok, rs1.ok, imm.ok)) (omega (arith, rd.ok, rs1.ok, imm.ok))
-row_of s (Lhu rd rs1 imm) = lhu_row s (word_of (Lhu rd rs1 imm)) rd.bits rs1.bits imm.bits (omega (arith, rd.ok, rs1.ok, imm.ok)) (omega (arith, rd.ok, rs1.ok, imm.ok)) (omega (arith, rd.ok, rs1.ok, imm.ok)) (omega (arith, rd.ok, rs1.ok, imm.ok)) (omega (arith, rd.ok, rs1.ok, imm.ok))
-row_of s (Sb rs1 rs2 imm) = sb_row s (word_of (Sb rs1 rs2 imm)) rs1.bits rs2.bits imm.bits (omega (arith, rs1.ok, rs2.ok, imm.ok)) (omega (arith, rs1.ok, rs2.ok, imm.ok)) (omega (arith, rs1.ok, rs2.ok, imm.ok)) (omega (arith, rs1.ok, rs2.ok, imm.ok)) (omega (arith, rs1.ok, rs2.ok, imm.ok))
-row_of s (Sh rs1 rs2 imm) = sh_row s (word_of (Sh rs1 rs2 imm)) rs1.bits rs2.bits imm.bits (omega (arith, rs1.ok, rs2.ok, imm.ok)) (omega (arith, rs1.ok, rs2.ok, imm.ok)) (omega (arith, rs1.ok, rs2.ok, imm.ok)) (omega (arith, rs1.ok, rs2.ok, imm.ok)) (omega (arith, rs1.ok, rs2.ok, imm.ok))
-row_of s (Sw rs1 rs2 imm) = sw_row s (word_of (Sw rs1 rs2 imm)) rs1.bits rs2.bits imm.bits (omega (arith, rs1.ok, rs2.ok, imm.ok)) (omega (arith, rs1.ok, rs2.ok, imm.ok)) (omega (arith, rs1.ok, rs2.ok, imm.ok)) (omega (arith, rs1.ok, rs2.ok, imm.ok)) (omega (arith, rs1.ok, rs2.ok, imm.ok))
-row_of s (Addi rd rs1 imm) = addi_row s (word_of (Addi rd rs1 imm)) rd.bits rs1.bits imm.bits (omega (arith, rd.ok, rs1.ok, imm.ok)) (omega (arith, rd.ok, rs1.ok, imm.ok)) (omega (arith, rd.ok, rs1.ok, imm.ok)) (omega (arith, rd.ok, rs1.ok, imm.ok)) (omega (arith, rd.ok, rs1.ok, imm.ok))
-row_of s (Slti rd rs1 imm) = slti_row s (word_of (Slti rd rs1 imm)) rd.bits rs1.bits imm.bits (omega (arith, rd.ok, rs1.ok, imm.ok)) (omega (arith, rd.ok, rs1.ok, imm.ok)) (omega (arith, rd.ok, rs1.ok, imm.ok)) (omega (arith, rd.ok, rs1.ok, imm.ok)) (omega (arith, rd.ok, rs1.ok, imm.ok))
-row_of s (Sltiu rd rs1 imm) = sltiu_row s (word_of (Sltiu rd rs1 imm)) rd.bits rs1.bits imm.bits (omega (arith, rd.ok, rs1.ok, imm.ok)) (omega (arith, rd.ok, rs1.ok, imm.ok)) (omega (arith, rd.ok, rs1.ok, imm.ok)) (omega (arith, rd.ok, rs1.ok, imm.ok)) (omega (arith, rd.ok, rs1.ok, imm.ok))
-row_of s (Xori rd rs1 imm) = xori_row s (word_of (Xori rd rs1 imm)) rd.bits rs1.bits imm.bits (omega (arith, rd.ok, rs1.ok, imm.ok)) (omega (arith, rd.ok, rs1.ok, imm.ok)) (omega (arith, rd.ok, rs1.ok, imm.ok)) (omega (arith, rd.ok, rs1.ok, imm.ok)) (omega (arith, rd.ok, rs1.ok, imm.ok))
-row_of s (Ori rd rs1 imm) = ori_row s (word_of (Ori rd rs1 imm)) rd.bits rs1.bits imm.bits (omega (arith, rd.ok, rs1.ok, imm.ok)) (omega (arith, rd.ok, rs1.ok, imm.ok)) (omega (arith, rd.ok, rs1.ok, imm.ok)) (omega (arith, rd.ok, rs1.ok, imm.ok)) (omega (arith, rd.ok, rs1.ok, imm.ok))
-row_of s (Andi rd rs1 imm) = andi_row s (word_of (Andi rd rs1 imm)) rd.bits rs1.bits imm.bits (omega (arith, rd.ok, rs1.ok, imm.ok)) (omega (arith, rd.ok, rs1.ok, imm.ok)) (omega (arith, rd.ok, rs1.ok, imm.ok)) (omega (arith, rd.ok, rs1.ok, imm.ok)) (omega (arith, rd.ok, rs1.ok, imm.ok))
-row_of s (Slli rd rs1 shamt) = slli_row s (word_of (Slli rd rs1 shamt)) rd.bits rs1.bits shamt.bits (omega (arith, rd.ok, rs1.ok, shamt.ok)) (omega (arith, rd.ok, rs1.ok, shamt.ok)) (omega (arith, rd.ok, rs1.ok, shamt.ok)) (omega (arith, rd.ok, rs1.ok, shamt.ok)) (omega (arith, rd.ok, rs1.ok, shamt.ok)) (omega (arith, rd.ok, rs1.ok, shamt.ok))
-row_of s (Srli rd rs1 shamt) = srli_row s (word_of (Srli rd rs1 shamt)) rd.bits rs1.bits shamt.bits (omega (arith, rd.ok, rs1.ok, shamt.ok)) (omega (arith, rd.ok, rs1.ok, shamt.ok)) (omega (arith, rd.ok, rs1.ok, shamt.ok)) (omega (arith, rd.ok, rs1.ok, shamt.ok)) (omega (arith, rd.ok, rs1.ok, shamt.ok)) (omega (arith, rd.ok, rs1.ok, shamt.ok))
-row_of s (Srai rd rs1 shamt) = srai_row s (word_of (Srai rd rs1 shamt)) rd.bits rs1.bits shamt.bits (omega (arith, rd.ok, rs1.ok, shamt.ok)) (omega (arith, rd.ok, rs1.ok, shamt.ok)) (omega (arith, rd.ok, rs1.ok, shamt.ok)) (omega (arith, rd.ok, rs1.ok, shamt.ok)) (omega (arith, rd.ok, rs1.ok, shamt.ok)) (omega (arith, rd.ok, rs1.ok, shamt.ok))
-row_of s (Add rd rs1 rs2) = add_row s (word_of (Add rd rs1 rs2)) rd.bits rs1.bits rs2.bits (omega (arith, rd.ok, rs1.ok, rs2.ok)) (omega (arith, rd.ok, rs1.ok, rs2.ok)) (omega (arith, rd.ok, rs1.ok, rs2.ok)) (omega (arith, rd.ok, rs1.ok, rs2.ok)) (omega (arith, rd.ok, rs1.ok, rs2.ok)) (omega (arith, rd.ok, rs1.ok, rs2.ok))
-row_of s (Sub rd rs1 rs2) = sub_row s (word_of (Sub rd rs1 rs2)) rd.bits rs1.bits rs2.bits (omega (arith, rd.ok, rs1.ok, rs2.ok)) (omega (arith, rd.ok, rs1.ok, rs2.ok)) (omega (arith, rd.ok, rs1.ok, rs2.ok)) (omega (arith, rd.ok, rs1.ok, rs2.ok)) (omega (arith, rd.ok, rs1.ok, rs2.ok)) (omega (arith, rd.ok, rs1.ok, rs2.ok))
-row_of s (Sll rd rs1 rs2) = sll_row s (word_of (Sll rd rs1 rs2)) rd.bits rs1.bits rs2.bits (omega (arith, rd.ok, rs1.ok, rs2.ok)) (omega (arith, rd.ok, rs1.ok, rs2.ok)) (omega (arith, rd.ok, rs1.ok, rs2.ok)) (omega (arith, rd.ok, rs1.ok, rs2.ok)) (omega (arith, rd.ok, rs1.ok, rs2.ok)) (omega (arith, rd.ok, rs1.ok, rs2.ok))
-row_of s (Slt rd rs1 rs2) = slt_row s (word_of (Slt rd rs1 rs2)) rd.bits rs1.bits rs2.bits (omega (arith, rd.ok, rs1.ok, rs2.ok)) (omega (arith, rd.ok, rs1.ok, rs2.ok)) (omega (arith, rd.ok, rs1.ok, rs2.ok)) (omega (arith, rd.ok, rs1.ok, rs2.ok)) (omega (arith, rd.ok, rs1.ok, rs2.ok)) (omega (arith, rd.ok, rs1.ok, rs2.ok))
-row_of s (Sltu rd rs1 rs2) = sltu_row s (word_of (Sltu rd rs1 rs2)) rd.bits rs1.bits rs2.bits (omega (arith, rd.ok, rs1.ok, rs2.ok)) (omega (arith, rd.ok, rs1.ok, rs2.ok)) (omega (arith, rd.ok, rs1.ok, rs2.ok)) (omega (arith, rd.ok, rs1.ok, rs2.ok)) (omega (arith, rd.ok, rs1.ok, rs2.ok)) (omega (arith, rd.ok, rs1.ok, rs2.ok))
-row_of s (Xor rd rs1 rs2) = xor_row s (word_of (Xor rd rs1 rs2)) rd.bits rs1.bits rs2.bits (omega (arith, rd.ok, rs1.ok, rs2.ok)) (omega (arith, rd.ok, rs1.ok, rs2.ok)) (omega (arith, rd.ok, rs1.ok, rs2.ok)) (omega (arith, rd.ok, rs1.ok, rs2.ok)) (omega (arith, rd.ok, rs1.ok, rs2.ok)) (omega (arith, rd.ok, rs1.ok, rs2.ok))
-row_of s (Srl rd rs1 rs2) = srl_row s (word_of (Srl rd rs1 rs2)) rd.bits rs1.bits rs2.bits (omega (arith, rd.ok, rs1.ok, rs2.ok)) (omega (arith, rd.ok, rs1.ok, rs2.ok)) (omega (arith, rd.ok, rs1.ok, rs2.ok)) (omega (arith, rd.ok, rs1.ok, rs2.ok)) (omega (arith, rd.ok, rs1.ok, rs2.ok)) (omega (arith, rd.ok, rs1.ok, rs2.ok))
-row_of s (Sra rd rs1 rs2) = sra_row s (word_of (Sra rd rs1 rs2)) rd.bits rs1.bits rs2.bits (omega (arith, rd.ok, rs1.ok, rs2.ok)) (omega (arith, rd.ok, rs1.ok, rs2.ok)) (omega (arith, rd.ok, rs1.ok, rs2.ok)) (omega (arith, rd.ok, rs1.ok, rs2.ok)) (omega (arith, rd.ok, rs1.ok, rs2.ok)) (omega (arith, rd.ok, rs1.ok, rs2.ok))
-row_of s (Or rd rs1 rs2) = or_row s (word_of (Or rd rs1 rs2)) rd.bits rs1.bits rs2.bits (omega (arith, rd.ok, rs1.ok, rs2.ok)) (omega (arith, rd.ok, rs1.ok, rs2.ok)) (omega (arith, rd.ok, rs1.ok, rs2.ok)) (omega (arith, rd.ok, rs1.ok, rs2.ok)) (omega (arith, rd.ok, rs1.ok, rs2.ok)) (omega (arith, rd.ok, rs1.ok, rs2.ok))
-row_of s (And rd rs1 rs2) = and_row s (word_of (And rd rs1 rs2)) rd.bits rs1.bits rs2.bits (omega (arith, rd.ok, rs1.ok, rs2.ok)) (omega (arith, rd.ok, rs1.ok, rs2.ok)) (omega (arith, rd.ok, rs1.ok, rs2.ok)) (omega (arith, rd.ok, rs1.ok, rs2.ok)) (omega (arith, rd.ok, rs1.ok, rs2.ok)) (omega (arith, rd.ok, rs1.ok, rs2.ok))
-row_of s (Mul rd rs1 rs2) = mul_row s (word_of (Mul rd rs1 rs2)) rd.bits rs1.bits rs2.bits (omega (arith, rd.ok, rs1.ok, rs2.ok)) (omega (arith, rd.ok, rs1.ok, rs2.ok)) (omega (arith, rd.ok, rs1.ok, rs2.ok)) (omega (arith, rd.ok, rs1.ok, rs2.ok)) (omega (arith, rd.ok, rs1.ok, rs2.ok)) (omega (arith, rd.ok, rs1.ok, rs2.ok))
-row_of s (Mulh rd rs1 rs2) = mulh_row s (word_of (Mulh rd rs1 rs2)) rd.bits rs1.bits rs2.bits (omega (arith, rd.ok, rs1.ok, rs2.ok)) (omega (arith, rd.ok, rs1.ok, rs2.ok)) (omega (arith, rd.ok, rs1.ok, rs2.ok)) (omega (arith, rd.ok, rs1.ok, rs2.ok)) (omega (arith, rd.ok, rs1.ok, rs2.ok)) (omega (arith, rd.ok, rs1.ok, rs2.ok))
-row_of s (Mulhsu rd rs1 rs2) = mulhsu_row s (word_of (Mulhsu rd rs1 rs2)) rd.bits rs1.bits rs2.bits (omega (arith, rd.ok, rs1.ok, rs2.ok)) (omega (arith, rd.ok, rs1.ok, rs2.ok)) (omega (arith, rd.ok, rs1.ok, rs2.ok)) (omega (arith, rd.ok, rs1.ok, rs2.ok)) (omega (arith, rd.ok, rs1.ok, rs2.ok)) (omega (arith, rd.ok, rs1.ok, rs2.ok))
-row_of s (Mulhu rd rs1 rs2) = mulhu_row s (word_of (Mulhu rd rs1 rs2)) rd.bits rs1.bits rs2.bits (omega (arith, rd.ok, rs1.ok, rs2.ok)) (omega (arith, rd.ok, rs1.ok, rs2.ok)) (omega (arith, rd.ok, rs1.ok, rs2.ok)) (omega (arith, rd.ok, rs1.ok, rs2.ok)) (omega (arith, rd.ok, rs1.ok, rs2.ok)) (omega (arith, rd.ok, rs1.ok, rs2.ok))
-row_of s (Div rd rs1 rs2) = div_row s (word_of (Div rd rs1 rs2)) rd.bits rs1.bits rs2.bits (omega (arith, rd.ok, rs1.ok, rs2.ok)) (omega (arith, rd.ok, rs1.ok, rs2.ok)) (omega (arith, rd.ok, rs1.ok, rs2.ok)) (omega (arith, rd.ok, rs1.ok, rs2.ok)) (omega (arith, rd.ok, rs1.ok, rs2.ok)) (omega (arith, rd.ok, rs1.ok, rs2.ok))
-row_of s (Divu rd rs1 rs2) = divu_row s (word_of (Divu rd rs1 rs2)) rd.bits rs1.bits rs2.bits (omega (arith, rd.ok, rs1.ok, rs2.ok)) (omega (arith, rd.ok, rs1.ok, rs2.ok)) (omega (arith, rd.ok, rs1.ok, rs2.ok)) (omega (arith, rd.ok, rs1.ok, rs2.ok)) (omega (arith, rd.ok, rs1.ok, rs2.ok)) (omega (arith, rd.ok, rs1.ok, rs2.ok))
-row_of s (Rem rd rs1 rs2) = rem_row s (word_of (Rem rd rs1 rs2)) rd.bits rs1.bits rs2.bits (omega (arith, rd.ok, rs1.ok, rs2.ok)) (omega (arith, rd.ok, rs1.ok, rs2.ok)) (omega (arith, rd.ok, rs1.ok, rs2.ok)) (omega (arith, rd.ok, rs1.ok, rs2.ok)) (omega (arith, rd.ok, rs1.ok, rs2.ok)) (omega (arith, rd.ok, rs1.ok, rs2.ok))
-row_of s (Remu rd rs1 rs2) = remu_row s (word_of (Remu rd rs1 rs2)) rd.bits rs1.bits rs2.bits (omega (arith, rd.ok, rs1.ok, rs2.ok)) (omega (arith, rd.ok, rs1.ok, rs2.ok)) (omega (arith, rd.ok, rs1.ok, rs2.ok)) (omega (arith, rd.ok, rs1.ok, rs2.ok)) (omega (arith, rd.ok, rs1.ok, rs2.ok)) (omega (arith, rd.ok, rs1.ok, rs2.ok))
-row_of s (Fence rd rs1 upper) = fence_row s (word_of (Fence rd rs1 upper)) (omega (arith, rd.ok, rs1.ok, upper.ok)) (omega (arith, rd.ok, rs1.ok, upper.ok))
+row_of s (Lui rd imm) = lui_row s (word_of (Lui rd imm)) rd.bits imm.bits (omega (arith, rd.ok, imm.ok))
+    (omega (arith, rd.ok, imm.ok)) (omega (arith, rd.ok, imm.ok))
+row_of s (Auipc rd imm) = auipc_row s (word_of (Auipc rd imm)) rd.bits imm.bits (omega (arith, rd.ok, imm.ok))
+    (omega (arith, rd.ok, imm.ok)) (omega (arith, rd.ok, imm.ok))
+row_of s (Jal rd imm) = jal_row s (word_of (Jal rd imm)) rd.bits imm.half (omega (arith, rd.ok, imm.ok))
+    (omega (arith, rd.ok, imm.ok)) (omega (arith, rd.ok, imm.ok))
+row_of s (Jalr rd rs1 imm) = jalr_row s (word_of (Jalr rd rs1 imm)) rd.bits rs1.bits imm.bits
+    (omega (arith, rd.ok, rs1.ok, imm.ok)) (omega (arith, rd.ok, rs1.ok, imm.ok)) (omega (arith, rd.ok, rs1.ok, imm.ok))
+    (omega (arith, rd.ok, rs1.ok, imm.ok)) (omega (arith, rd.ok, rs1.ok, imm.ok))
+row_of s (Beq rs1 rs2 imm) = beq_row s (word_of (Beq rs1 rs2 imm)) rs1.bits rs2.bits imm.half
+    (omega (arith, rs1.ok, rs2.ok, imm.ok)) (omega (arith, rs1.ok, rs2.ok, imm.ok)) (omega (arith, rs1.ok, rs2.ok, imm.ok))
+    (omega (arith, rs1.ok, rs2.ok, imm.ok)) (omega (arith, rs1.ok, rs2.ok, imm.ok))
+row_of s (Bne rs1 rs2 imm) = bne_row s (word_of (Bne rs1 rs2 imm)) rs1.bits rs2.bits imm.half
+    (omega (arith, rs1.ok, rs2.ok, imm.ok)) (omega (arith, rs1.ok, rs2.ok, imm.ok)) (omega (arith, rs1.ok, rs2.ok, imm.ok))
+    (omega (arith, rs1.ok, rs2.ok, imm.ok)) (omega (arith, rs1.ok, rs2.ok, imm.ok))
+row_of s (Blt rs1 rs2 imm) = blt_row s (word_of (Blt rs1 rs2 imm)) rs1.bits rs2.bits imm.half
+    (omega (arith, rs1.ok, rs2.ok, imm.ok)) (omega (arith, rs1.ok, rs2.ok, imm.ok)) (omega (arith, rs1.ok, rs2.ok, imm.ok))
+    (omega (arith, rs1.ok, rs2.ok, imm.ok)) (omega (arith, rs1.ok, rs2.ok, imm.ok))
+row_of s (Bge rs1 rs2 imm) = bge_row s (word_of (Bge rs1 rs2 imm)) rs1.bits rs2.bits imm.half
+    (omega (arith, rs1.ok, rs2.ok, imm.ok)) (omega (arith, rs1.ok, rs2.ok, imm.ok)) (omega (arith, rs1.ok, rs2.ok, imm.ok))
+    (omega (arith, rs1.ok, rs2.ok, imm.ok)) (omega (arith, rs1.ok, rs2.ok, imm.ok))
+row_of s (Bltu rs1 rs2 imm) = bltu_row s (word_of (Bltu rs1 rs2 imm)) rs1.bits rs2.bits imm.half
+    (omega (arith, rs1.ok, rs2.ok, imm.ok)) (omega (arith, rs1.ok, rs2.ok, imm.ok)) (omega (arith, rs1.ok, rs2.ok, imm.ok))
+    (omega (arith, rs1.ok, rs2.ok, imm.ok)) (omega (arith, rs1.ok, rs2.ok, imm.ok))
+row_of s (Bgeu rs1 rs2 imm) = bgeu_row s (word_of (Bgeu rs1 rs2 imm)) rs1.bits rs2.bits imm.half
+    (omega (arith, rs1.ok, rs2.ok, imm.ok)) (omega (arith, rs1.ok, rs2.ok, imm.ok)) (omega (arith, rs1.ok, rs2.ok, imm.ok))
+    (omega (arith, rs1.ok, rs2.ok, imm.ok)) (omega (arith, rs1.ok, rs2.ok, imm.ok))
+row_of s (Lb rd rs1 imm) = lb_row s (word_of (Lb rd rs1 imm)) rd.bits rs1.bits imm.bits (omega (arith, rd.ok, rs1.ok, imm.ok))
+    (omega (arith, rd.ok, rs1.ok, imm.ok)) (omega (arith, rd.ok, rs1.ok, imm.ok)) (omega (arith, rd.ok, rs1.ok, imm.ok))
+    (omega (arith, rd.ok, rs1.ok, imm.ok))
+row_of s (Lh rd rs1 imm) = lh_row s (word_of (Lh rd rs1 imm)) rd.bits rs1.bits imm.bits (omega (arith, rd.ok, rs1.ok, imm.ok))
+    (omega (arith, rd.ok, rs1.ok, imm.ok)) (omega (arith, rd.ok, rs1.ok, imm.ok)) (omega (arith, rd.ok, rs1.ok, imm.ok))
+    (omega (arith, rd.ok, rs1.ok, imm.ok))
+row_of s (Lw rd rs1 imm) = lw_row s (word_of (Lw rd rs1 imm)) rd.bits rs1.bits imm.bits (omega (arith, rd.ok, rs1.ok, imm.ok))
+    (omega (arith, rd.ok, rs1.ok, imm.ok)) (omega (arith, rd.ok, rs1.ok, imm.ok)) (omega (arith, rd.ok, rs1.ok, imm.ok))
+    (omega (arith, rd.ok, rs1.ok, imm.ok))
+row_of s (Lbu rd rs1 imm) = lbu_row s (word_of (Lbu rd rs1 imm)) rd.bits rs1.bits imm.bits (omega (arith, rd.ok, rs1.ok, imm.ok))
+    (omega (arith, rd.ok, rs1.ok, imm.ok)) (omega (arith, rd.ok, rs1.ok, imm.ok)) (omega (arith, rd.ok, rs1.ok, imm.ok))
+    (omega (arith, rd.ok, rs1.ok, imm.ok))
+row_of s (Lhu rd rs1 imm) = lhu_row s (word_of (Lhu rd rs1 imm)) rd.bits rs1.bits imm.bits (omega (arith, rd.ok, rs1.ok, imm.ok))
+    (omega (arith, rd.ok, rs1.ok, imm.ok)) (omega (arith, rd.ok, rs1.ok, imm.ok)) (omega (arith, rd.ok, rs1.ok, imm.ok))
+    (omega (arith, rd.ok, rs1.ok, imm.ok))
+row_of s (Sb rs1 rs2 imm) = sb_row s (word_of (Sb rs1 rs2 imm)) rs1.bits rs2.bits imm.bits (omega (arith, rs1.ok, rs2.ok, imm.ok))
+    (omega (arith, rs1.ok, rs2.ok, imm.ok)) (omega (arith, rs1.ok, rs2.ok, imm.ok)) (omega (arith, rs1.ok, rs2.ok, imm.ok))
+    (omega (arith, rs1.ok, rs2.ok, imm.ok))
+row_of s (Sh rs1 rs2 imm) = sh_row s (word_of (Sh rs1 rs2 imm)) rs1.bits rs2.bits imm.bits (omega (arith, rs1.ok, rs2.ok, imm.ok))
+    (omega (arith, rs1.ok, rs2.ok, imm.ok)) (omega (arith, rs1.ok, rs2.ok, imm.ok)) (omega (arith, rs1.ok, rs2.ok, imm.ok))
+    (omega (arith, rs1.ok, rs2.ok, imm.ok))
+row_of s (Sw rs1 rs2 imm) = sw_row s (word_of (Sw rs1 rs2 imm)) rs1.bits rs2.bits imm.bits (omega (arith, rs1.ok, rs2.ok, imm.ok))
+    (omega (arith, rs1.ok, rs2.ok, imm.ok)) (omega (arith, rs1.ok, rs2.ok, imm.ok)) (omega (arith, rs1.ok, rs2.ok, imm.ok))
+    (omega (arith, rs1.ok, rs2.ok, imm.ok))
+row_of s (Addi rd rs1 imm) = addi_row s (word_of (Addi rd rs1 imm)) rd.bits rs1.bits imm.bits
+    (omega (arith, rd.ok, rs1.ok, imm.ok)) (omega (arith, rd.ok, rs1.ok, imm.ok)) (omega (arith, rd.ok, rs1.ok, imm.ok))
+    (omega (arith, rd.ok, rs1.ok, imm.ok)) (omega (arith, rd.ok, rs1.ok, imm.ok))
+row_of s (Slti rd rs1 imm) = slti_row s (word_of (Slti rd rs1 imm)) rd.bits rs1.bits imm.bits
+    (omega (arith, rd.ok, rs1.ok, imm.ok)) (omega (arith, rd.ok, rs1.ok, imm.ok)) (omega (arith, rd.ok, rs1.ok, imm.ok))
+    (omega (arith, rd.ok, rs1.ok, imm.ok)) (omega (arith, rd.ok, rs1.ok, imm.ok))
+row_of s (Sltiu rd rs1 imm) = sltiu_row s (word_of (Sltiu rd rs1 imm)) rd.bits rs1.bits imm.bits
+    (omega (arith, rd.ok, rs1.ok, imm.ok)) (omega (arith, rd.ok, rs1.ok, imm.ok)) (omega (arith, rd.ok, rs1.ok, imm.ok))
+    (omega (arith, rd.ok, rs1.ok, imm.ok)) (omega (arith, rd.ok, rs1.ok, imm.ok))
+row_of s (Xori rd rs1 imm) = xori_row s (word_of (Xori rd rs1 imm)) rd.bits rs1.bits imm.bits
+    (omega (arith, rd.ok, rs1.ok, imm.ok)) (omega (arith, rd.ok, rs1.ok, imm.ok)) (omega (arith, rd.ok, rs1.ok, imm.ok))
+    (omega (arith, rd.ok, rs1.ok, imm.ok)) (omega (arith, rd.ok, rs1.ok, imm.ok))
+row_of s (Ori rd rs1 imm) = ori_row s (word_of (Ori rd rs1 imm)) rd.bits rs1.bits imm.bits (omega (arith, rd.ok, rs1.ok, imm.ok))
+    (omega (arith, rd.ok, rs1.ok, imm.ok)) (omega (arith, rd.ok, rs1.ok, imm.ok)) (omega (arith, rd.ok, rs1.ok, imm.ok))
+    (omega (arith, rd.ok, rs1.ok, imm.ok))
+row_of s (Andi rd rs1 imm) = andi_row s (word_of (Andi rd rs1 imm)) rd.bits rs1.bits imm.bits
+    (omega (arith, rd.ok, rs1.ok, imm.ok)) (omega (arith, rd.ok, rs1.ok, imm.ok)) (omega (arith, rd.ok, rs1.ok, imm.ok))
+    (omega (arith, rd.ok, rs1.ok, imm.ok)) (omega (arith, rd.ok, rs1.ok, imm.ok))
+row_of s (Slli rd rs1 shamt) =
+    slli_row s (word_of (Slli rd rs1 shamt)) rd.bits rs1.bits shamt.bits (omega (arith, rd.ok, rs1.ok, shamt.ok))
+    (omega (arith, rd.ok, rs1.ok, shamt.ok)) (omega (arith, rd.ok, rs1.ok, shamt.ok)) (omega (arith, rd.ok, rs1.ok, shamt.ok))
+    (omega (arith, rd.ok, rs1.ok, shamt.ok)) (omega (arith, rd.ok, rs1.ok, shamt.ok))
+row_of s (Srli rd rs1 shamt) =
+    srli_row s (word_of (Srli rd rs1 shamt)) rd.bits rs1.bits shamt.bits (omega (arith, rd.ok, rs1.ok, shamt.ok))
+    (omega (arith, rd.ok, rs1.ok, shamt.ok)) (omega (arith, rd.ok, rs1.ok, shamt.ok)) (omega (arith, rd.ok, rs1.ok, shamt.ok))
+    (omega (arith, rd.ok, rs1.ok, shamt.ok)) (omega (arith, rd.ok, rs1.ok, shamt.ok))
+row_of s (Srai rd rs1 shamt) =
+    srai_row s (word_of (Srai rd rs1 shamt)) rd.bits rs1.bits shamt.bits (omega (arith, rd.ok, rs1.ok, shamt.ok))
+    (omega (arith, rd.ok, rs1.ok, shamt.ok)) (omega (arith, rd.ok, rs1.ok, shamt.ok)) (omega (arith, rd.ok, rs1.ok, shamt.ok))
+    (omega (arith, rd.ok, rs1.ok, shamt.ok)) (omega (arith, rd.ok, rs1.ok, shamt.ok))
+row_of s (Add rd rs1 rs2) = add_row s (word_of (Add rd rs1 rs2)) rd.bits rs1.bits rs2.bits (omega (arith, rd.ok, rs1.ok, rs2.ok))
+    (omega (arith, rd.ok, rs1.ok, rs2.ok)) (omega (arith, rd.ok, rs1.ok, rs2.ok)) (omega (arith, rd.ok, rs1.ok, rs2.ok))
+    (omega (arith, rd.ok, rs1.ok, rs2.ok)) (omega (arith, rd.ok, rs1.ok, rs2.ok))
+row_of s (Sub rd rs1 rs2) = sub_row s (word_of (Sub rd rs1 rs2)) rd.bits rs1.bits rs2.bits (omega (arith, rd.ok, rs1.ok, rs2.ok))
+    (omega (arith, rd.ok, rs1.ok, rs2.ok)) (omega (arith, rd.ok, rs1.ok, rs2.ok)) (omega (arith, rd.ok, rs1.ok, rs2.ok))
+    (omega (arith, rd.ok, rs1.ok, rs2.ok)) (omega (arith, rd.ok, rs1.ok, rs2.ok))
+row_of s (Sll rd rs1 rs2) = sll_row s (word_of (Sll rd rs1 rs2)) rd.bits rs1.bits rs2.bits (omega (arith, rd.ok, rs1.ok, rs2.ok))
+    (omega (arith, rd.ok, rs1.ok, rs2.ok)) (omega (arith, rd.ok, rs1.ok, rs2.ok)) (omega (arith, rd.ok, rs1.ok, rs2.ok))
+    (omega (arith, rd.ok, rs1.ok, rs2.ok)) (omega (arith, rd.ok, rs1.ok, rs2.ok))
+row_of s (Slt rd rs1 rs2) = slt_row s (word_of (Slt rd rs1 rs2)) rd.bits rs1.bits rs2.bits (omega (arith, rd.ok, rs1.ok, rs2.ok))
+    (omega (arith, rd.ok, rs1.ok, rs2.ok)) (omega (arith, rd.ok, rs1.ok, rs2.ok)) (omega (arith, rd.ok, rs1.ok, rs2.ok))
+    (omega (arith, rd.ok, rs1.ok, rs2.ok)) (omega (arith, rd.ok, rs1.ok, rs2.ok))
+row_of s (Sltu rd rs1 rs2) = sltu_row s (word_of (Sltu rd rs1 rs2)) rd.bits rs1.bits rs2.bits
+    (omega (arith, rd.ok, rs1.ok, rs2.ok)) (omega (arith, rd.ok, rs1.ok, rs2.ok)) (omega (arith, rd.ok, rs1.ok, rs2.ok))
+    (omega (arith, rd.ok, rs1.ok, rs2.ok)) (omega (arith, rd.ok, rs1.ok, rs2.ok)) (omega (arith, rd.ok, rs1.ok, rs2.ok))
+row_of s (Xor rd rs1 rs2) = xor_row s (word_of (Xor rd rs1 rs2)) rd.bits rs1.bits rs2.bits (omega (arith, rd.ok, rs1.ok, rs2.ok))
+    (omega (arith, rd.ok, rs1.ok, rs2.ok)) (omega (arith, rd.ok, rs1.ok, rs2.ok)) (omega (arith, rd.ok, rs1.ok, rs2.ok))
+    (omega (arith, rd.ok, rs1.ok, rs2.ok)) (omega (arith, rd.ok, rs1.ok, rs2.ok))
+row_of s (Srl rd rs1 rs2) = srl_row s (word_of (Srl rd rs1 rs2)) rd.bits rs1.bits rs2.bits (omega (arith, rd.ok, rs1.ok, rs2.ok))
+    (omega (arith, rd.ok, rs1.ok, rs2.ok)) (omega (arith, rd.ok, rs1.ok, rs2.ok)) (omega (arith, rd.ok, rs1.ok, rs2.ok))
+    (omega (arith, rd.ok, rs1.ok, rs2.ok)) (omega (arith, rd.ok, rs1.ok, rs2.ok))
+row_of s (Sra rd rs1 rs2) = sra_row s (word_of (Sra rd rs1 rs2)) rd.bits rs1.bits rs2.bits (omega (arith, rd.ok, rs1.ok, rs2.ok))
+    (omega (arith, rd.ok, rs1.ok, rs2.ok)) (omega (arith, rd.ok, rs1.ok, rs2.ok)) (omega (arith, rd.ok, rs1.ok, rs2.ok))
+    (omega (arith, rd.ok, rs1.ok, rs2.ok)) (omega (arith, rd.ok, rs1.ok, rs2.ok))
+row_of s (Or rd rs1 rs2) = or_row s (word_of (Or rd rs1 rs2)) rd.bits rs1.bits rs2.bits (omega (arith, rd.ok, rs1.ok, rs2.ok))
+    (omega (arith, rd.ok, rs1.ok, rs2.ok)) (omega (arith, rd.ok, rs1.ok, rs2.ok)) (omega (arith, rd.ok, rs1.ok, rs2.ok))
+    (omega (arith, rd.ok, rs1.ok, rs2.ok)) (omega (arith, rd.ok, rs1.ok, rs2.ok))
+row_of s (And rd rs1 rs2) = and_row s (word_of (And rd rs1 rs2)) rd.bits rs1.bits rs2.bits (omega (arith, rd.ok, rs1.ok, rs2.ok))
+    (omega (arith, rd.ok, rs1.ok, rs2.ok)) (omega (arith, rd.ok, rs1.ok, rs2.ok)) (omega (arith, rd.ok, rs1.ok, rs2.ok))
+    (omega (arith, rd.ok, rs1.ok, rs2.ok)) (omega (arith, rd.ok, rs1.ok, rs2.ok))
+row_of s (Mul rd rs1 rs2) = mul_row s (word_of (Mul rd rs1 rs2)) rd.bits rs1.bits rs2.bits (omega (arith, rd.ok, rs1.ok, rs2.ok))
+    (omega (arith, rd.ok, rs1.ok, rs2.ok)) (omega (arith, rd.ok, rs1.ok, rs2.ok)) (omega (arith, rd.ok, rs1.ok, rs2.ok))
+    (omega (arith, rd.ok, rs1.ok, rs2.ok)) (omega (arith, rd.ok, rs1.ok, rs2.ok))
+row_of s (Mulh rd rs1 rs2) = mulh_row s (word_of (Mulh rd rs1 rs2)) rd.bits rs1.bits rs2.bits
+    (omega (arith, rd.ok, rs1.ok, rs2.ok)) (omega (arith, rd.ok, rs1.ok, rs2.ok)) (omega (arith, rd.ok, rs1.ok, rs2.ok))
+    (omega (arith, rd.ok, rs1.ok, rs2.ok)) (omega (arith, rd.ok, rs1.ok, rs2.ok)) (omega (arith, rd.ok, rs1.ok, rs2.ok))
+row_of s (Mulhsu rd rs1 rs2) =
+    mulhsu_row s (word_of (Mulhsu rd rs1 rs2)) rd.bits rs1.bits rs2.bits (omega (arith, rd.ok, rs1.ok, rs2.ok))
+    (omega (arith, rd.ok, rs1.ok, rs2.ok)) (omega (arith, rd.ok, rs1.ok, rs2.ok)) (omega (arith, rd.ok, rs1.ok, rs2.ok))
+    (omega (arith, rd.ok, rs1.ok, rs2.ok)) (omega (arith, rd.ok, rs1.ok, rs2.ok))
+row_of s (Mulhu rd rs1 rs2) = mulhu_row s (word_of (Mulhu rd rs1 rs2)) rd.bits rs1.bits rs2.bits
+    (omega (arith, rd.ok, rs1.ok, rs2.ok)) (omega (arith, rd.ok, rs1.ok, rs2.ok)) (omega (arith, rd.ok, rs1.ok, rs2.ok))
+    (omega (arith, rd.ok, rs1.ok, rs2.ok)) (omega (arith, rd.ok, rs1.ok, rs2.ok)) (omega (arith, rd.ok, rs1.ok, rs2.ok))
+row_of s (Div rd rs1 rs2) = div_row s (word_of (Div rd rs1 rs2)) rd.bits rs1.bits rs2.bits (omega (arith, rd.ok, rs1.ok, rs2.ok))
+    (omega (arith, rd.ok, rs1.ok, rs2.ok)) (omega (arith, rd.ok, rs1.ok, rs2.ok)) (omega (arith, rd.ok, rs1.ok, rs2.ok))
+    (omega (arith, rd.ok, rs1.ok, rs2.ok)) (omega (arith, rd.ok, rs1.ok, rs2.ok))
+row_of s (Divu rd rs1 rs2) = divu_row s (word_of (Divu rd rs1 rs2)) rd.bits rs1.bits rs2.bits
+    (omega (arith, rd.ok, rs1.ok, rs2.ok)) (omega (arith, rd.ok, rs1.ok, rs2.ok)) (omega (arith, rd.ok, rs1.ok, rs2.ok))
+    (omega (arith, rd.ok, rs1.ok, rs2.ok)) (omega (arith, rd.ok, rs1.ok, rs2.ok)) (omega (arith, rd.ok, rs1.ok, rs2.ok))
+row_of s (Rem rd rs1 rs2) = rem_row s (word_of (Rem rd rs1 rs2)) rd.bits rs1.bits rs2.bits (omega (arith, rd.ok, rs1.ok, rs2.ok))
+    (omega (arith, rd.ok, rs1.ok, rs2.ok)) (omega (arith, rd.ok, rs1.ok, rs2.ok)) (omega (arith, rd.ok, rs1.ok, rs2.ok))
+    (omega (arith, rd.ok, rs1.ok, rs2.ok)) (omega (arith, rd.ok, rs1.ok, rs2.ok))
+row_of s (Remu rd rs1 rs2) = remu_row s (word_of (Remu rd rs1 rs2)) rd.bits rs1.bits rs2.bits
+    (omega (arith, rd.ok, rs1.ok, rs2.ok)) (omega (arith, rd.ok, rs1.ok, rs2.ok)) (omega (arith, rd.ok, rs1.ok, rs2.ok))
+    (omega (arith, rd.ok, rs1.ok, rs2.ok)) (omega (arith, rd.ok, rs1.ok, rs2.ok)) (omega (arith, rd.ok, rs1.ok, rs2.ok))
+row_of s (Fence rd rs1 upper) =
+    fence_row s (word_of (Fence rd rs1 upper)) (omega (arith, rd.ok, rs1.ok, upper.ok)) (omega (arith, rd.ok, rs1.ok, upper.ok))
 row_of s EcallCode = ecall_row s
 row_of s EbreakCode = ebreak_row s
 
@@ -271,28 +435,37 @@ no_auipc : (w : ℕ) → w < 2 ^ 32 → Unknown w → w % 128 ≡ 23 → ⊥
 no_auipc w fits none o = none (Auipc (reg (w / 128)) (imm20 (w / 4096))) (omega arith)
 
 no_jal : (w : ℕ) → w < 2 ^ 32 → Unknown w → w % 128 ≡ 111 → ⊥
-no_jal w fits none o = none (Jal (reg (w / 128)) (imm21 (w / 2147483648 * 524288 + w / 4096 % 256 * 2048 + w / 1048576 % 2 * 1024 + w / 2097152 % 1024))) (omega arith)
+no_jal w fits none o = none (Jal (reg (w / 128))
+    (imm21 (w / 2147483648 * 524288 + w / 4096 % 256 * 2048 + w / 1048576 % 2 * 1024 + w / 2097152 % 1024))) (omega arith)
 
 no_jalr : (w : ℕ) → w < 2 ^ 32 → Unknown w → w % 128 ≡ 103 → w / 4096 % 8 ≡ 0 → ⊥
 no_jalr w fits none o f = none (Jalr (reg (w / 128)) (reg (w / 32768)) (imm12 (w / 1048576))) (omega arith)
 
 no_beq : (w : ℕ) → w < 2 ^ 32 → Unknown w → w % 128 ≡ 99 → w / 4096 % 8 ≡ 0 → ⊥
-no_beq w fits none o f = none (Beq (reg (w / 32768)) (reg (w / 1048576)) (imm13 (w / 2147483648 * 2048 + w / 128 % 2 * 1024 + w / 33554432 % 64 * 16 + w / 256 % 16))) (omega arith)
+no_beq w fits none o f = none (Beq (reg (w / 32768)) (reg (w / 1048576))
+    (imm13 (w / 2147483648 * 2048 + w / 128 % 2 * 1024 + w / 33554432 % 64 * 16 + w / 256 % 16))) (omega arith)
 
 no_bne : (w : ℕ) → w < 2 ^ 32 → Unknown w → w % 128 ≡ 99 → w / 4096 % 8 ≡ 1 → ⊥
-no_bne w fits none o f = none (Bne (reg (w / 32768)) (reg (w / 1048576)) (imm13 (w / 2147483648 * 2048 + w / 128 % 2 * 1024 + w / 33554432 % 64 * 16 + w / 256 % 16))) (omega arith)
+no_bne w fits none o f = none (Bne (reg (w / 32768)) (reg (w / 1048576))
+    (imm13 (w / 2147483648 * 2048 + w / 128 % 2 * 1024 + w / 33554432 % 64 * 16 + w / 256 % 16))) (omega arith)
 
 no_blt : (w : ℕ) → w < 2 ^ 32 → Unknown w → w % 128 ≡ 99 → w / 4096 % 8 ≡ 4 → ⊥
-no_blt w fits none o f = none (Blt (reg (w / 32768)) (reg (w / 1048576)) (imm13 (w / 2147483648 * 2048 + w / 128 % 2 * 1024 + w / 33554432 % 64 * 16 + w / 256 % 16))) (omega arith)
+no_blt w fits none o f = none (Blt (reg (w / 32768)) (reg (w / 1048576))
+    (imm13 (w / 2147483648 * 2048 + w / 128 % 2 * 1024 + w / 33554432 % 64 * 16 + w / 256 % 16))) (omega arith)
 
 no_bge : (w : ℕ) → w < 2 ^ 32 → Unknown w → w % 128 ≡ 99 → w / 4096 % 8 ≡ 5 → ⊥
-no_bge w fits none o f = none (Bge (reg (w / 32768)) (reg (w / 1048576)) (imm13 (w / 2147483648 * 2048 + w / 128 % 2 * 1024 + w / 33554432 % 64 * 16 + w / 256 % 16))) (omega arith)
+no_bge w fits none o f = none (Bge (reg (w / 32768)) (reg (w / 1048576))
+    (imm13 (w / 2147483648 * 2048 + w / 128 % 2 * 1024 + w / 33554432 % 64 * 16 + w / 256 % 16))) (omega arith)
 
 no_bltu : (w : ℕ) → w < 2 ^ 32 → Unknown w → w % 128 ≡ 99 → w / 4096 % 8 ≡ 6 → ⊥
-no_bltu w fits none o f = none (Bltu (reg (w / 32768)) (reg (w / 1048576)) (imm13 (w / 2147483648 * 2048 + w / 128 % 2 * 1024 + w / 33554432 % 64 * 16 + w / 256 % 16))) (omega arith)
+no_bltu w fits none o f = none
+    (Bltu (reg (w / 32768)) (reg (w / 1048576))
+    (imm13 (w / 2147483648 * 2048 + w / 128 % 2 * 1024 + w / 33554432 % 64 * 16 + w / 256 % 16))) (omega arith)
 
 no_bgeu : (w : ℕ) → w < 2 ^ 32 → Unknown w → w % 128 ≡ 99 → w / 4096 % 8 ≡ 7 → ⊥
-no_bgeu w fits none o f = none (Bgeu (reg (w / 32768)) (reg (w / 1048576)) (imm13 (w / 2147483648 * 2048 + w / 128 % 2 * 1024 + w / 33554432 % 64 * 16 + w / 256 % 16))) (omega arith)
+no_bgeu w fits none o f = none
+    (Bgeu (reg (w / 32768)) (reg (w / 1048576))
+    (imm13 (w / 2147483648 * 2048 + w / 128 % 2 * 1024 + w / 33554432 % 64 * 16 + w / 256 % 16))) (omega arith)
 
 no_lb : (w : ℕ) → w < 2 ^ 32 → Unknown w → w % 128 ≡ 3 → w / 4096 % 8 ≡ 0 → ⊥
 no_lb w fits none o f = none (Lb (reg (w / 128)) (reg (w / 32768)) (imm12 (w / 1048576))) (omega arith)
@@ -441,8 +614,10 @@ unknown_operation w a b fits none o =
     choose (w / 33554432 == 0) _ _ None (λ e. absurd (unknown_basic w a b fits none o (eqb-true (w / 33554432) 0 e))) (λ _.
     choose (w / 33554432 == 1) _ _ None (λ e. absurd (unknown_multiply w a b fits none o (eqb-true (w / 33554432) 1 e))) (λ _.
     choose (w / 33554432 == 32) _ _ None (λ g.
-    choose (w / 4096 % 8 == 0) _ _ None (λ e. absurd (no_sub w fits none o (eqb-true (w / 4096 % 8) 0 e) (eqb-true (w / 33554432) 32 g))) (λ _.
-    choose (w / 4096 % 8 == 5) _ _ None (λ e. absurd (no_sra w fits none o (eqb-true (w / 4096 % 8) 5 e) (eqb-true (w / 33554432) 32 g))) (λ _. refl)))
+    choose (w / 4096 % 8 == 0) _ _ None
+    (λ e. absurd (no_sub w fits none o (eqb-true (w / 4096 % 8) 0 e) (eqb-true (w / 33554432) 32 g))) (λ _.
+    choose (w / 4096 % 8 == 5) _ _ None
+    (λ e. absurd (no_sra w fits none o (eqb-true (w / 4096 % 8) 5 e) (eqb-true (w / 33554432) 32 g))) (λ _. refl)))
     (λ _. refl)))
 
 unknown_plain : (w : ℕ) → w < 2 ^ 32 → Unknown w → w % 128 ≡ 19 → (w / 4096 % 8 == 1) ≡ false → (w / 4096 % 8 == 5) ≡ false → ⊥
@@ -460,11 +635,14 @@ unknown_plain w fits none o not_1 not_5 =
 unknown_immediate : (s : State) (w : ℕ) → w < 2 ^ 32 → Unknown w → w % 128 ≡ 19 → operation_immediate s w ≡ None
 unknown_immediate s w fits none o =
     choose (w / 4096 % 8 == 1) _ _ None (λ f.
-    choose (w / 33554432 == 0) _ _ None (λ g. absurd (no_slli w fits none o (eqb-true (w / 4096 % 8) 1 f) (eqb-true (w / 33554432) 0 g))) (λ _. refl))
+    choose (w / 33554432 == 0) _ _ None
+    (λ g. absurd (no_slli w fits none o (eqb-true (w / 4096 % 8) 1 f) (eqb-true (w / 33554432) 0 g))) (λ _. refl))
     (λ not_1.
     choose (w / 4096 % 8 == 5) _ _ None (λ f.
-    choose (w / 33554432 == 0) _ _ None (λ g. absurd (no_srli w fits none o (eqb-true (w / 4096 % 8) 5 f) (eqb-true (w / 33554432) 0 g))) (λ _.
-    choose (w / 33554432 == 32) _ _ None (λ g. absurd (no_srai w fits none o (eqb-true (w / 4096 % 8) 5 f) (eqb-true (w / 33554432) 32 g))) (λ _. refl)))
+    choose (w / 33554432 == 0) _ _ None
+    (λ g. absurd (no_srli w fits none o (eqb-true (w / 4096 % 8) 5 f) (eqb-true (w / 33554432) 0 g))) (λ _.
+    choose (w / 33554432 == 32) _ _ None
+    (λ g. absurd (no_srai w fits none o (eqb-true (w / 4096 % 8) 5 f) (eqb-true (w / 33554432) 32 g))) (λ _. refl)))
     (λ not_5. absurd (unknown_plain w fits none o not_1 not_5)))
 
 -- a word that is no instruction's is illegal
@@ -474,12 +652,35 @@ unknown s w fits none =
     choose (w % 128 == 55) _ _ (Err Illegal) (λ o. absurd (no_lui w fits none (eqb-true (w % 128) 55 o))) (λ _.
     choose (w % 128 == 23) _ _ (Err Illegal) (λ o. absurd (no_auipc w fits none (eqb-true (w % 128) 23 o))) (λ _.
     choose (w % 128 == 111) _ _ (Err Illegal) (λ o. absurd (no_jal w fits none (eqb-true (w % 128) 111 o))) (λ _.
-    choose (w % 128 == 103) _ _ (Err Illegal) (λ o. choose (w / 4096 % 8 == 0) _ _ (Err Illegal) (λ f. absurd (no_jalr w fits none (eqb-true (w % 128) 103 o) (eqb-true (w / 4096 % 8) 0 f))) (λ _. refl)) (λ _.
-    choose (w % 128 == 99) _ _ (Err Illegal) (λ o. ap (branches_if s _) (unknown_branch w _ _ fits none (eqb-true (w % 128) 99 o))) (λ _.
-    choose (w % 128 == 3) _ _ (Err Illegal) (λ o. choose (w / 4096 % 8 == 0) _ _ (Err Illegal) (λ f. absurd (no_lb w fits none (eqb-true (w % 128) 3 o) (eqb-true (w / 4096 % 8) 0 f))) (λ _. choose (w / 4096 % 8 == 1) _ _ (Err Illegal) (λ f. absurd (no_lh w fits none (eqb-true (w % 128) 3 o) (eqb-true (w / 4096 % 8) 1 f))) (λ _. choose (w / 4096 % 8 == 2) _ _ (Err Illegal) (λ f. absurd (no_lw w fits none (eqb-true (w % 128) 3 o) (eqb-true (w / 4096 % 8) 2 f))) (λ _. choose (w / 4096 % 8 == 4) _ _ (Err Illegal) (λ f. absurd (no_lbu w fits none (eqb-true (w % 128) 3 o) (eqb-true (w / 4096 % 8) 4 f))) (λ _. choose (w / 4096 % 8 == 5) _ _ (Err Illegal) (λ f. absurd (no_lhu w fits none (eqb-true (w % 128) 3 o) (eqb-true (w / 4096 % 8) 5 f))) (λ _. refl)))))) (λ _.
-    choose (w % 128 == 35) _ _ (Err Illegal) (λ o. choose (w / 4096 % 8 == 0) _ _ (Err Illegal) (λ f. absurd (no_sb w fits none (eqb-true (w % 128) 35 o) (eqb-true (w / 4096 % 8) 0 f))) (λ _. choose (w / 4096 % 8 == 1) _ _ (Err Illegal) (λ f. absurd (no_sh w fits none (eqb-true (w % 128) 35 o) (eqb-true (w / 4096 % 8) 1 f))) (λ _. choose (w / 4096 % 8 == 2) _ _ (Err Illegal) (λ f. absurd (no_sw w fits none (eqb-true (w % 128) 35 o) (eqb-true (w / 4096 % 8) 2 f))) (λ _. refl)))) (λ _.
-    choose (w % 128 == 19) _ _ (Err Illegal) (λ o. ap (gives_if s _) (unknown_immediate s w fits none (eqb-true (w % 128) 19 o))) (λ _.
-    choose (w % 128 == 51) _ _ (Err Illegal) (λ o. ap (gives_if s _) (unknown_operation w _ _ fits none (eqb-true (w % 128) 51 o))) (λ _.
-    choose (w % 128 == 15) _ _ (Err Illegal) (λ o. choose (w / 4096 % 8 == 0) _ _ (Err Illegal) (λ f. absurd (no_fence w fits none (eqb-true (w % 128) 15 o) (eqb-true (w / 4096 % 8) 0 f))) (λ _. refl)) (λ _.
+    choose (w % 128 == 103) _ _ (Err Illegal)
+    (λ o. choose (w / 4096 % 8 == 0) _ _ (Err Illegal)
+    (λ f. absurd (no_jalr w fits none (eqb-true (w % 128) 103 o) (eqb-true (w / 4096 % 8) 0 f))) (λ _. refl)) (λ _.
+    choose (w % 128 == 99) _ _ (Err Illegal)
+    (λ o. ap (branches_if s _) (unknown_branch w _ _ fits none (eqb-true (w % 128) 99 o))) (λ _.
+    choose (w % 128 == 3) _ _ (Err Illegal)
+    (λ o. choose (w / 4096 % 8 == 0) _ _ (Err Illegal)
+    (λ f. absurd (no_lb w fits none (eqb-true (w % 128) 3 o) (eqb-true (w / 4096 % 8) 0 f)))
+    (λ _. choose (w / 4096 % 8 == 1) _ _ (Err Illegal)
+    (λ f. absurd (no_lh w fits none (eqb-true (w % 128) 3 o) (eqb-true (w / 4096 % 8) 1 f)))
+    (λ _. choose (w / 4096 % 8 == 2) _ _ (Err Illegal)
+    (λ f. absurd (no_lw w fits none (eqb-true (w % 128) 3 o) (eqb-true (w / 4096 % 8) 2 f)))
+    (λ _. choose (w / 4096 % 8 == 4) _ _ (Err Illegal)
+    (λ f. absurd (no_lbu w fits none (eqb-true (w % 128) 3 o) (eqb-true (w / 4096 % 8) 4 f)))
+    (λ _. choose (w / 4096 % 8 == 5) _ _ (Err Illegal)
+    (λ f. absurd (no_lhu w fits none (eqb-true (w % 128) 3 o) (eqb-true (w / 4096 % 8) 5 f))) (λ _. refl)))))) (λ _.
+    choose (w % 128 == 35) _ _ (Err Illegal)
+    (λ o. choose (w / 4096 % 8 == 0) _ _ (Err Illegal)
+    (λ f. absurd (no_sb w fits none (eqb-true (w % 128) 35 o) (eqb-true (w / 4096 % 8) 0 f)))
+    (λ _. choose (w / 4096 % 8 == 1) _ _ (Err Illegal)
+    (λ f. absurd (no_sh w fits none (eqb-true (w % 128) 35 o) (eqb-true (w / 4096 % 8) 1 f)))
+    (λ _. choose (w / 4096 % 8 == 2) _ _ (Err Illegal)
+    (λ f. absurd (no_sw w fits none (eqb-true (w % 128) 35 o) (eqb-true (w / 4096 % 8) 2 f))) (λ _. refl)))) (λ _.
+    choose (w % 128 == 19) _ _ (Err Illegal) (λ o. ap (gives_if s _) (unknown_immediate s w fits none (eqb-true (w % 128) 19 o)))
+    (λ _.
+    choose (w % 128 == 51) _ _ (Err Illegal)
+    (λ o. ap (gives_if s _) (unknown_operation w _ _ fits none (eqb-true (w % 128) 51 o))) (λ _.
+    choose (w % 128 == 15) _ _ (Err Illegal)
+    (λ o. choose (w / 4096 % 8 == 0) _ _ (Err Illegal)
+    (λ f. absurd (no_fence w fits none (eqb-true (w % 128) 15 o) (eqb-true (w / 4096 % 8) 0 f))) (λ _. refl)) (λ _.
     choose (w == 115) _ _ (Err Illegal) (λ e. absurd (none EcallCode (eqb-true w 115 e))) (λ _.
     choose (w == 1048691) _ _ (Err Illegal) (λ e. absurd (none EbreakCode (eqb-true w 1048691 e))) (λ _. refl))))))))))))

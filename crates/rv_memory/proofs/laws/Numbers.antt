@@ -1,5 +1,6 @@
 -- What the memory has after a store, address by address and number by number.
-use Rattle.std.proofs.Common.{◌≡◌, ◌≢◌, ℕ, zero, suc, ◌+◌, ◌*◌, ◌/◌, ◌%◌, ◌^◌, ◌<◌, ◌≤◌, Option, Some, None, IsSome, refl, ◌∙◌, arith, pow-suc}
+use Rattle.std.proofs.Common.{◌≡◌, ◌≢◌, ℕ, zero, suc, ◌+◌, ◌*◌, ◌/◌, ◌%◌, ◌^◌, ◌<◌, ◌≤◌, Option, Some, None, IsSome, refl, ◌∙◌}
+use Rattle.std.proofs.Common.{arith, pow-suc}
 use Rattle.std.specs.FinMap.{get, insert, gets}
 use borrow.Author.Rules.{rules}
 use Rattle.rv_memory.specs.Ranges.{Bytes}
@@ -15,7 +16,8 @@ pub mapped-insert : (m : Bytes) (a b q : ℕ) → IsSome (get m q) → IsSome (g
 mapped-insert m a b q mapped = grind (gets, rules)
 
 -- a store changes nothing outside its range
-pub get-with_number_other : (size : ℕ) (m : Bytes) (a v q : ℕ) → (a ≤ q → q < a + size → ⊥) → get (with_number m size a v) q ≡ get m q
+pub get-with_number_other : (size : ℕ) (m : Bytes) (a v q : ℕ) → (a ≤ q → q < a + size → ⊥)
+    → get (with_number m size a v) q ≡ get m q
 unfolding with_number
 get-with_number_other zero m a v q outside = refl
 get-with_number_other (suc size) m a v q outside =
@@ -37,7 +39,8 @@ number_at-with_number zero m a v below = let none : v ≡ 0 = omega arith in rw 
 number_at-with_number (suc size) m a v below =
     let high : v / 256 < 256 ^ size = omega (arith, pow-suc 256 size) in
     let first : get (with_number (insert m a (v % 256)) size (a + 1) (v / 256)) a ≡ Some (v % 256) =
-    get-with_number_other size (insert m a (v % 256)) (a + 1) (v / 256) a (λ low above. omega arith) ∙ get-insert_same m a (v % 256) in
+    get-with_number_other size (insert m a (v % 256)) (a + 1) (v / 256) a (λ low above. omega arith)
+    ∙ get-insert_same m a (v % 256) in
     let rest = number_at-with_number size (insert m a (v % 256)) (a + 1) (v / 256) high in
     let whole : v % 256 + 256 * (v / 256) ≡ v = omega arith in
     rw (first, rest, whole)
@@ -46,15 +49,18 @@ number_at-with_number (suc size) m a v below =
 mapped_before_insert : (m : Bytes) (a b q : ℕ) → IsSome (get m a) → IsSome (get (insert m a b) q) → IsSome (get m q)
 mapped_before_insert m a b q there mapped = grind (gets, rules)
 
-pub mapped_before_with_number : (size : ℕ) (m : Bytes) (a v q : ℕ) → ((k : ℕ) → a ≤ k → k < a + size → IsSome (get m k)) → IsSome (get (with_number m size a v) q) → IsSome (get m q)
+pub mapped_before_with_number : (size : ℕ) (m : Bytes) (a v q : ℕ) → ((k : ℕ) → a ≤ k → k < a + size → IsSome (get m k))
+    → IsSome (get (with_number m size a v) q) → IsSome (get m q)
 unfolding with_number
 mapped_before_with_number zero m a v q there mapped = mapped
 mapped_before_with_number (suc size) m a v q there mapped =
-    let later = mapped_before_with_number size (insert m a (v % 256)) (a + 1) (v / 256) q (λ k low high. mapped-insert m a (v % 256) k (there k (omega arith) (omega arith))) mapped in
+    let later = mapped_before_with_number size (insert m a (v % 256)) (a + 1) (v / 256) q
+    (λ k low high. mapped-insert m a (v % 256) k (there k (omega arith) (omega arith))) mapped in
     mapped_before_insert m a (v % 256) q (there a (omega arith) (omega arith)) later
 
 -- two memories that agree on a range have the same number there
-pub number_at_agree : (size : ℕ) (m n : Bytes) (a : ℕ) → ((k : ℕ) → a ≤ k → k < a + size → get n k ≡ get m k) → number_at n size a ≡ number_at m size a
+pub number_at_agree : (size : ℕ) (m n : Bytes) (a : ℕ) → ((k : ℕ) → a ≤ k → k < a + size → get n k ≡ get m k)
+    → number_at n size a ≡ number_at m size a
 unfolding number_at
 number_at_agree zero m n a agree = refl
 number_at_agree (suc size) m n a agree =
@@ -63,7 +69,9 @@ number_at_agree (suc size) m n a agree =
     rw (first, rest)
 
 -- the number of a range that a store doesn't meet
-pub number_at-with_number_other : (width : ℕ) (q size : ℕ) (m : Bytes) (a v : ℕ) → ((k : ℕ) → q ≤ k → k < q + width → a ≤ k → k < a + size → ⊥) → number_at (with_number m size a v) width q ≡ number_at m width q
+pub number_at-with_number_other : (width : ℕ) (q size : ℕ) (m : Bytes) (a v : ℕ)
+    → ((k : ℕ) → q ≤ k → k < q + width → a ≤ k → k < a + size → ⊥) → number_at (with_number m size a v) width q
+    ≡ number_at m width q
 number_at-with_number_other width q size m a v apart =
     number_at_agree width m (with_number m size a v) q (λ k low high. get-with_number_other size m a v k (apart k low high))
 
@@ -73,14 +81,17 @@ is_some_joined (Some low) (Some high) l h = refl
 is_some_joined (Some low) None l h = absurd (cc)
 is_some_joined None high l h = absurd (cc)
 
-pub is_some-number_at : (size : ℕ) (m : Bytes) (a : ℕ) → ((k : ℕ) → a ≤ k → k < a + size → IsSome (get m k)) → IsSome (number_at m size a)
+pub is_some-number_at : (size : ℕ) (m : Bytes) (a : ℕ) → ((k : ℕ) → a ≤ k → k < a + size → IsSome (get m k))
+    → IsSome (number_at m size a)
 unfolding number_at
 is_some-number_at zero m a there = refl
 is_some-number_at (suc size) m a there =
-    is_some_joined _ _ (there a (omega arith) (omega arith)) (is_some-number_at size m (a + 1) (λ k low high. there k (omega arith) (omega arith)))
+    is_some_joined _ _ (there a (omega arith) (omega arith))
+    (is_some-number_at size m (a + 1) (λ k low high. there k (omega arith) (omega arith)))
 
 -- a word is read from its four bytes
-pub number_at_four : (m : Bytes) (a b c d e : ℕ) → get m a ≡ Some b → get m (a + 1) ≡ Some c → get m (a + 2) ≡ Some d → get m (a + 3) ≡ Some e → number_at m 4 a ≡ Some (b + 256 * (c + 256 * (d + 256 * e)))
+pub number_at_four : (m : Bytes) (a b c d e : ℕ) → get m a ≡ Some b → get m (a + 1) ≡ Some c → get m (a + 2) ≡ Some d
+    → get m (a + 3) ≡ Some e → number_at m 4 a ≡ Some (b + 256 * (c + 256 * (d + 256 * e)))
 unfolding number_at
 number_at_four m a b c d e first second third fourth =
     let two : a + 1 + 1 ≡ a + 2 = omega arith in

@@ -1,10 +1,12 @@
 -- Coefficients of sums and multiples of forms, and forms that keep the limits since their coefficients do.
-use Rattle.std.proofs.Common.{◌≡◌, refl, sym, ◌∙◌, ap, arith, ℕ, ◌+◌, ◌<◌, ◌≤◌, Bool, true, false, List, [], ◌∷◌, length, ℤ, pos, negsuc, neg_ℤ, ◌+ℤ◌, ◌*ℤ◌, nat_eq, nat_lt, if◌then◌else◌}
+use Rattle.std.proofs.Common.{◌≡◌, refl, sym, ◌∙◌, ap, arith, ℕ, ◌+◌, ◌<◌, ◌≤◌, Bool, true, false, List, [], ◌∷◌, length, ℤ, pos}
+use Rattle.std.proofs.Common.{negsuc, neg_ℤ, ◌+ℤ◌, ◌*ℤ◌, nat_eq, nat_lt, if◌then◌else◌}
 use Rattle.std.specs.Ordering.{int_eq}
 use Rattle.std.proofs.lemmas.Bool.{le-leb, eqb-true}
 use Rattle.std.proofs.lemmas.Bool.Decides.{nat_tests, Decides-int_eq}
 use Rattle.std.proofs.lemmas.Int.{ints}
-use Rattle.side_certs.specs.LinearForm.{LinearForm, is_small, all_small, is_within, keep, keep_all, merge_into, merge, rises_from, terms_times, plus, times, minus, share, coefficient}
+use Rattle.side_certs.specs.LinearForm.{LinearForm, is_small, all_small, is_within, keep, keep_all, merge_into, merge, rises_from}
+use Rattle.side_certs.specs.LinearForm.{terms_times, plus, times, minus, share, coefficient}
 use Rattle.side_certs.proofs.laws.Limits.{both, rises_parts, coefficient_before}
 use Rattle.side_certs.proofs.laws.Products.{times_sum, times_nothing}
 
@@ -36,18 +38,24 @@ shares s r q k l same = rw (sym same) (by (nat_eq r s)) where
 abbrev Adds : ℕ → List (ℕ × ℤ) → (List (ℕ × ℤ) → List (ℕ × ℤ)) → Type 0
 Adds s ts rest = (us : List (ℕ × ℤ)) → coefficient s (rest us) ≡ coefficient s ts +ℤ coefficient s us
 
-coefficient_into : (s : ℕ) (t : ℕ × ℤ) (ts : List (ℕ × ℤ)) (rest : List (ℕ × ℤ) → List (ℕ × ℤ)) → Adds s ts rest → Adds s (t ∷ ts) (merge_into t rest)
-coefficient_into s t ts rest adds [] = let one = coefficient_keep s t.0 t.1 (rest []) in let more = adds [] in omega (arith, ints, one, more)
-coefficient_into s t ts rest adds (u ∷ us) = by (coefficient_into s t ts rest adds us) (nat_lt t.0 u.0) (nat_eq t.0 u.0) refl refl where
-  by : coefficient s (merge_into t rest us) ≡ coefficient s (t ∷ ts) +ℤ coefficient s us → (less equal : Bool) → nat_lt t.0 u.0 ≡ less → nat_eq t.0 u.0 ≡ equal
-      → coefficient s (merge_into t rest (u ∷ us)) ≡ coefficient s (t ∷ ts) +ℤ coefficient s (u ∷ us)
-  by next true equal l e = let one = coefficient_keep s t.0 t.1 (rest (u ∷ us)) in let more = adds (u ∷ us) in rw l (omega (arith, ints, one, more))
-  by next false true l e =
-      let one = coefficient_keep s t.0 (t.1 +ℤ u.1) (rest us) in
-      let more = adds us in
-      let split = shares s t.0 u.0 t.1 u.1 (eqb-true _ _ e) in
-      rw (l, e) (omega (arith, ints, one, more, split))
-  by next false false l e = let one = coefficient_keep s u.0 u.1 (merge_into t rest us) in rw (l, e) (omega (arith, ints, one, next))
+coefficient_into : (s : ℕ) (t : ℕ × ℤ) (ts : List (ℕ × ℤ)) (rest : List (ℕ × ℤ) → List (ℕ × ℤ)) → Adds s ts rest
+    → Adds s (t ∷ ts) (merge_into t rest)
+coefficient_into s t ts rest adds [] = let one = coefficient_keep s t.0 t.1 (rest []) in let more = adds [] in
+    omega (arith, ints, one, more)
+coefficient_into s t ts rest adds (u ∷ us) =
+    by (coefficient_into s t ts rest adds us) (nat_lt t.0 u.0) (nat_eq t.0 u.0) refl refl where
+      by : coefficient s (merge_into t rest us) ≡ coefficient s (t ∷ ts) +ℤ coefficient s us → (less equal : Bool)
+          → nat_lt t.0 u.0 ≡ less → nat_eq t.0 u.0 ≡ equal
+          → coefficient s (merge_into t rest (u ∷ us)) ≡ coefficient s (t ∷ ts) +ℤ coefficient s (u ∷ us)
+      by next true equal l e = let one = coefficient_keep s t.0 t.1 (rest (u ∷ us)) in let more = adds (u ∷ us) in
+          rw l (omega (arith, ints, one, more))
+      by next false true l e =
+          let one = coefficient_keep s t.0 (t.1 +ℤ u.1) (rest us) in
+          let more = adds us in
+          let split = shares s t.0 u.0 t.1 u.1 (eqb-true _ _ e) in
+          rw (l, e) (omega (arith, ints, one, more, split))
+      by next false false l e = let one = coefficient_keep s u.0 u.1 (merge_into t rest us) in
+          rw (l, e) (omega (arith, ints, one, next))
 
 pub coefficient_merge : (s : ℕ) (ts us : List (ℕ × ℤ)) → coefficient s (merge ts us) ≡ coefficient s ts +ℤ coefficient s us
 coefficient_merge s [] us = let all = coefficient_keep_all s us in omega (arith, ints, all)
@@ -72,13 +80,15 @@ coefficient_times s k (t ∷ ts) =
 
 -- Whole forms.
 
-pub coefficient_plus : (s : ℕ) (f g : LinearForm) → coefficient s (plus f g).terms ≡ coefficient s f.terms +ℤ coefficient s g.terms
+pub coefficient_plus : (s : ℕ) (f g : LinearForm)
+    → coefficient s (plus f g).terms ≡ coefficient s f.terms +ℤ coefficient s g.terms
 coefficient_plus s f g = coefficient_merge s f.terms g.terms
 
 pub coefficient_scaled : (s : ℕ) (k : ℤ) (f : LinearForm) → coefficient s (times k f).terms ≡ k *ℤ coefficient s f.terms
 coefficient_scaled s k f = coefficient_times s k f.terms
 
-pub coefficient_minus : (s : ℕ) (f g : LinearForm) → coefficient s (minus f g).terms ≡ coefficient s f.terms +ℤ neg_ℤ (coefficient s g.terms)
+pub coefficient_minus : (s : ℕ) (f g : LinearForm)
+    → coefficient s (minus f g).terms ≡ coefficient s f.terms +ℤ neg_ℤ (coefficient s g.terms)
 coefficient_minus s f g =
     let whole = coefficient_merge s f.terms (terms_times (negsuc 0) g.terms) in
     let other = coefficient_times s (negsuc 0) g.terms in
@@ -100,13 +110,16 @@ below_keep_all : (n : ℕ) (ts : List (ℕ × ℤ)) → Below n ts → Below n (
 below_keep_all n [] all = tt
 below_keep_all n (t ∷ ts) all = below_keep n t.0 t.1 (keep_all ts) all.0 (below_keep_all n ts all.1)
 
-below_into : (n : ℕ) (t : ℕ × ℤ) (rest : List (ℕ × ℤ) → List (ℕ × ℤ)) → t.0 < n → ((us : List (ℕ × ℤ)) → Below n us → Below n (rest us)) → (us : List (ℕ × ℤ)) → Below n us → Below n (merge_into t rest us)
+below_into : (n : ℕ) (t : ℕ × ℤ) (rest : List (ℕ × ℤ) → List (ℕ × ℤ)) → t.0 < n
+    → ((us : List (ℕ × ℤ)) → Below n us → Below n (rest us)) → (us : List (ℕ × ℤ)) → Below n us → Below n (merge_into t rest us)
 below_into n t rest less more [] all = below_keep n t.0 t.1 (rest []) less (more [] tt)
-below_into n t rest less more (u ∷ us) all = by (below_into n t rest less more us all.1) (nat_lt t.0 u.0) (nat_eq t.0 u.0) refl refl where
-  by : Below n (merge_into t rest us) → (first equal : Bool) → nat_lt t.0 u.0 ≡ first → nat_eq t.0 u.0 ≡ equal → Below n (merge_into t rest (u ∷ us))
-  by next true equal l e = rw l (below_keep n t.0 t.1 (rest (u ∷ us)) less (more (u ∷ us) all))
-  by next false true l e = rw (l, e) (below_keep n t.0 (t.1 +ℤ u.1) (rest us) less (more us all.1))
-  by next false false l e = rw (l, e) (below_keep n u.0 u.1 (merge_into t rest us) all.0 next)
+below_into n t rest less more (u ∷ us) all =
+    by (below_into n t rest less more us all.1) (nat_lt t.0 u.0) (nat_eq t.0 u.0) refl refl where
+      by : Below n (merge_into t rest us) → (first equal : Bool) → nat_lt t.0 u.0 ≡ first → nat_eq t.0 u.0 ≡ equal
+          → Below n (merge_into t rest (u ∷ us))
+      by next true equal l e = rw l (below_keep n t.0 t.1 (rest (u ∷ us)) less (more (u ∷ us) all))
+      by next false true l e = rw (l, e) (below_keep n t.0 (t.1 +ℤ u.1) (rest us) less (more us all.1))
+      by next false false l e = rw (l, e) (below_keep n u.0 u.1 (merge_into t rest us) all.0 next)
 
 pub below_merge : (n : ℕ) (ts us : List (ℕ × ℤ)) → Below n ts → Below n us → Below n (merge ts us)
 below_merge n [] us one two = below_keep_all n us two
@@ -125,7 +138,8 @@ few_terms n least (t ∷ ts) rise all less =
     let rest : t.0 + 1 + length ts ≤ n = few_terms n (t.0 + 1) ts p.2 all.1 (omega (arith, all.0)) in
     omega (arith, p.0, rest)
 
-pub small_terms : (least : ℕ) (ts : List (ℕ × ℤ)) → rises_from least ts ≡ true → ((s : ℕ) → is_small (coefficient s ts) ≡ true) → all_small ts ≡ true
+pub small_terms : (least : ℕ) (ts : List (ℕ × ℤ)) → rises_from least ts ≡ true → ((s : ℕ) → is_small (coefficient s ts) ≡ true)
+    → all_small ts ≡ true
 small_terms least [] rise small = refl
 small_terms least (t ∷ ts) rise small = both first (small_terms (t.0 + 1) ts p.2 rest) where
   p : (least ≤ t.0) × (int_eq t.1 (pos 0) ≡ false) × (rises_from (t.0 + 1) ts ≡ true)
@@ -149,7 +163,9 @@ small_terms least (t ∷ ts) rise small = both first (small_terms (t.0 + 1) ts p
         rw (← alone) (small s)
 
 -- a form keeps the limits where its symbols are below 8 and rise, and its numbers are small
-pub keeps_limits : (f : LinearForm) → is_small f.constant ≡ true → rises_from 0 f.terms ≡ true → Below 8 f.terms → ((s : ℕ) → is_small (coefficient s f.terms) ≡ true) → is_within f ≡ true
+pub keeps_limits : (f : LinearForm) → is_small f.constant ≡ true → rises_from 0 f.terms ≡ true → Below 8 f.terms
+    → ((s : ℕ) → is_small (coefficient s f.terms) ≡ true) → is_within f ≡ true
 keeps_limits f constant rise below small =
-    let few : length f.terms ≤ 16 = let eight : 0 + length f.terms ≤ 8 = few_terms 8 0 f.terms rise below (omega arith) in omega (arith, eight) in
+    let few : length f.terms ≤ 16 = let eight : 0 + length f.terms ≤ 8 = few_terms 8 0 f.terms rise below (omega arith) in
+    omega (arith, eight) in
     both (both constant (le-leb _ _ few)) (small_terms 0 f.terms rise small)

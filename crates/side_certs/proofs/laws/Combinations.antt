@@ -1,5 +1,6 @@
 -- Sums of multiples of forms: their numbers, and their symbols in order.
-use Rattle.std.proofs.Common.{◌≡◌, ℕ, ◌+◌, ◌-◌, ◌<◌, ◌≤◌, Bool, true, false, List, [], ◌∷◌, length, take, drop, slice_index_or, Option, Some, None, ℤ, pos, ◌+ℤ◌, ◌*ℤ◌, nat_le, if◌then◌else◌, refl, sym, ap, ◌∙◌, arith}
+use Rattle.std.proofs.Common.{◌≡◌, ℕ, ◌+◌, ◌-◌, ◌<◌, ◌≤◌, Bool, true, false, List, [], ◌∷◌, length, take, drop, slice_index_or}
+use Rattle.std.proofs.Common.{Option, Some, None, ℤ, pos, ◌+ℤ◌, ◌*ℤ◌, nat_le, if◌then◌else◌, refl, sym, ap, ◌∙◌, arith}
 use Rattle.std.proofs.Math.Seq.{take-length}
 use Rattle.std.proofs.lemmas.Bool.Decides.{nat_tests}
 use Rattle.std.proofs.lemmas.Int.{ints}
@@ -12,7 +13,8 @@ use Rattle.side_certs.proofs.laws.Limits.{rises_parts, rises_made, coefficient_b
 use Rattle.side_certs.proofs.laws.Products.{times_nothing}
 
 -- a list by its first element and the others
-pub split_first : {X : Type 0} (xs : List X) (x : X) → 1 ≤ length xs → x ≡ slice_index_or xs 0 x → xs ≡ x ∷ take (length xs - 1) (drop 1 xs)
+pub split_first : {X : Type 0} (xs : List X) (x : X) → 1 ≤ length xs → x ≡ slice_index_or xs 0 x
+    → xs ≡ x ∷ take (length xs - 1) (drop 1 xs)
 split_first [] x some is = absurd (omega arith)
 split_first (y ∷ ys) x some is =
     let size : length (y ∷ ys) - 1 ≡ length ys = omega arith in
@@ -26,7 +28,8 @@ pub number_times : (place : Option ℕ) (k : ℤ) (f : LinearForm) → number_at
 number_times None k f = refl
 number_times (Some s) k f = coefficient_scaled s k f
 
-pub number_sum : (place : Option ℕ) (k : ℤ) (ps : List Part) → number_at place (sum k ps) ≡ number_at place (constant k) +ℤ parts_at place ps
+pub number_sum : (place : Option ℕ) (k : ℤ) (ps : List Part)
+    → number_at place (sum k ps) ≡ number_at place (constant k) +ℤ parts_at place ps
 number_sum place k [] = omega (arith, ints)
 number_sum place k (p ∷ ps) =
     let whole = number_plus place (times p.times p.form.now) (sum k ps) in
@@ -61,7 +64,8 @@ before_lesser r (Some s) (Some t) before = by (nat_le s t) refl before where
   by true e lt = (lt, grind (arith, nat_tests, lt, e))
   by false e lt = (grind (arith, nat_tests, lt, e), lt)
 
-pub next_plus : (f g : LinearForm) (least : ℕ) (a b : Option ℕ) → IsNext f least a → IsNext g least b → IsNext (plus f g) least (lesser a b)
+pub next_plus : (f g : LinearForm) (least : ℕ) (a b : Option ℕ) → IsNext f least a → IsNext g least b
+    → IsNext (plus f g) least (lesser a b)
 next_plus f g least a b one two = record {
   from = from_lesser least a b one.from two.from;
   before = λ r from before.
@@ -72,11 +76,13 @@ next_plus f g least a b one two = record {
       omega (arith, ints, whole, first, second);
 }
 
-pub sum_rises : (ts us : List (ℕ × ℤ)) (k : ℤ) → rises_from 0 ts ≡ true → rises_from 0 us ≡ true → rises_from 0 (merge (terms_times k ts) us) ≡ true
+pub sum_rises : (ts us : List (ℕ × ℤ)) (k : ℤ) → rises_from 0 ts ≡ true → rises_from 0 us ≡ true
+    → rises_from 0 (merge (terms_times k ts) us) ≡ true
 sum_rises ts us k one two = merge_rises (terms_times k ts) us 0 (times_rise k 0 ts one) two
 
 -- the first of terms whose symbols rise is their next one
-pub next_first : (f : LinearForm) (ts : List (ℕ × ℤ)) (least : ℕ) → 1 ≤ length ts → rises_from 0 ts ≡ true → ((r : ℕ) → least ≤ r → coefficient r ts ≡ coefficient r f.terms)
+pub next_first : (f : LinearForm) (ts : List (ℕ × ℤ)) (least : ℕ) → 1 ≤ length ts → rises_from 0 ts ≡ true
+    → ((r : ℕ) → least ≤ r → coefficient r ts ≡ coefficient r f.terms)
     → least ≤ (slice_index_or ts 0 (0, pos 0)).0 → IsNext f least (Some (slice_index_or ts 0 (0, pos 0)).0)
 next_first f [] least some rise same from = absurd (omega arith)
 next_first f (t ∷ ts) least some rise same from =
@@ -88,4 +94,5 @@ next_first f (t ∷ ts) least some rise same from =
     }
   where
     none : rises_from (t.0 + 1) ts ≡ true → (r : ℕ) → r < t.0 → coefficient r (t ∷ ts) ≡ pos 0
-    none rest r before = coefficient_before r t.0 (t ∷ ts) before (let p = rises_parts 0 t ts rise in rises_made t.0 t ts (omega arith) p.1 p.2)
+    none rest r before = coefficient_before r t.0 (t ∷ ts) before
+        (let p = rises_parts 0 t ts rise in rises_made t.0 t ts (omega arith) p.1 p.2)

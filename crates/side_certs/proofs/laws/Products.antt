@@ -1,19 +1,24 @@
 -- Products of whole numbers: sums, signs and bounds.
-use Rattle.std.proofs.Common.{◌≡◌, ℕ, suc, ◌+◌, ◌-◌, ◌*◌, ◌≤◌, ℤ, pos, negsuc, ◌+ℤ◌, ◌*ℤ◌, neg_ℤ, ◌≤ℤ◌, ap, arith, mul-le-mul, nat_abs}
+use Rattle.std.proofs.Common.{◌≡◌, ℕ, suc, ◌+◌, ◌-◌, ◌*◌, ◌≤◌, ℤ, pos, negsuc, ◌+ℤ◌, ◌*ℤ◌, neg_ℤ, ◌≤ℤ◌, ap, arith, mul-le-mul}
+use Rattle.std.proofs.Common.{nat_abs}
 use Rattle.std.proofs.lemmas.Int.{ints, unsigned_abs-mul}
 use Rattle.side_certs.specs.Closes.{Near}
 use borrow.Author.Differences.{up, down, sum_is_lem, product_is}
 
 pub sum_times : (a b c : ℤ) → (a +ℤ b) *ℤ c ≡ (a *ℤ c) +ℤ (b *ℤ c)
 sum_times a b c =
-    let p : (up (a +ℤ b) + down a + down b) * up c ≡ (down (a +ℤ b) + up a + up b) * up c = ap (λ (n : ℕ). n * up c) (sum_is_lem a b) in
-    let q : (up (a +ℤ b) + down a + down b) * down c ≡ (down (a +ℤ b) + up a + up b) * down c = ap (λ (n : ℕ). n * down c) (sum_is_lem a b) in
+    let p : (up (a +ℤ b) + down a + down b) * up c ≡ (down (a +ℤ b) + up a + up b) * up c =
+    ap (λ (n : ℕ). n * up c) (sum_is_lem a b) in
+    let q : (up (a +ℤ b) + down a + down b) * down c ≡ (down (a +ℤ b) + up a + up b) * down c =
+    ap (λ (n : ℕ). n * down c) (sum_is_lem a b) in
     omega (arith, ints, p, q)
 
 pub times_sum : (a b c : ℤ) → a *ℤ (b +ℤ c) ≡ (a *ℤ b) +ℤ (a *ℤ c)
 times_sum a b c =
-    let p : (up (b +ℤ c) + down b + down c) * up a ≡ (down (b +ℤ c) + up b + up c) * up a = ap (λ (n : ℕ). n * up a) (sum_is_lem b c) in
-    let q : (up (b +ℤ c) + down b + down c) * down a ≡ (down (b +ℤ c) + up b + up c) * down a = ap (λ (n : ℕ). n * down a) (sum_is_lem b c) in
+    let p : (up (b +ℤ c) + down b + down c) * up a ≡ (down (b +ℤ c) + up b + up c) * up a =
+    ap (λ (n : ℕ). n * up a) (sum_is_lem b c) in
+    let q : (up (b +ℤ c) + down b + down c) * down a ≡ (down (b +ℤ c) + up b + up c) * down a =
+    ap (λ (n : ℕ). n * down a) (sum_is_lem b c) in
     omega (arith, ints, p, q)
 
 -- factors group
@@ -49,11 +54,13 @@ product_not_below m (negsuc n) some = absurd (omega (arith, ints, some))
 
 -- a product has at most the product of the magnitudes
 pub near_product : (m n : ℕ) (a b : ℤ) → Near m a → Near n b → Near (m * n) (a *ℤ b)
-near_product m n a b one two = near_of (a *ℤ b) (m * n) (let sizes = unsigned_abs-mul a b in let most = mul-le-mul (size a m one) (size b n two) in omega (arith, sizes, most)) where
-  size : (z : ℤ) (k : ℕ) → Near k z → nat_abs z ≤ k
-  size (pos i) k near = omega (arith, ints, near.1)
-  size (negsuc i) k near = omega (arith, ints, near.0)
+near_product m n a b one two =
+    near_of (a *ℤ b) (m * n) (let sizes = unsigned_abs-mul a b in let most = mul-le-mul (size a m one) (size b n two) in
+    omega (arith, sizes, most)) where
+      size : (z : ℤ) (k : ℕ) → Near k z → nat_abs z ≤ k
+      size (pos i) k near = omega (arith, ints, near.1)
+      size (negsuc i) k near = omega (arith, ints, near.0)
 
-  near_of : (z : ℤ) (k : ℕ) → nat_abs z ≤ k → Near k z
-  near_of (pos i) k less = (omega (arith, ints), omega (arith, ints, less))
-  near_of (negsuc i) k less = (omega (arith, ints, less), omega (arith, ints))
+      near_of : (z : ℤ) (k : ℕ) → nat_abs z ≤ k → Near k z
+      near_of (pos i) k less = (omega (arith, ints), omega (arith, ints, less))
+      near_of (negsuc i) k less = (omega (arith, ints, less), omega (arith, ints))

@@ -1,10 +1,12 @@
 -- Values of constants, symbols, sums, multiples and differences of forms.
-use Rattle.std.proofs.Common.{◌≡◌, refl, sym, ◌∙◌, ap, arith, ℕ, ◌<◌, Bool, true, false, List, [], ◌∷◌, ℤ, pos, negsuc, neg_ℤ, ◌+ℤ◌, ◌*ℤ◌, nat_eq, nat_lt}
+use Rattle.std.proofs.Common.{◌≡◌, refl, sym, ◌∙◌, ap, arith, ℕ, ◌<◌, Bool, true, false, List, [], ◌∷◌, ℤ, pos, negsuc, neg_ℤ}
+use Rattle.std.proofs.Common.{◌+ℤ◌, ◌*ℤ◌, nat_eq, nat_lt}
 use Rattle.std.specs.Ordering.{int_eq}
 use Rattle.std.proofs.lemmas.Bool.{eqb-true}
 use Rattle.std.proofs.lemmas.Bool.Decides.{Decides-int_eq}
 use Rattle.std.proofs.lemmas.Int.{ints}
-use Rattle.side_certs.specs.LinearForm.{LinearForm, constant, symbol, below, plus, times, minus, keep, keep_all, merge_into, merge, terms_times, terms_at, value_at}
+use Rattle.side_certs.specs.LinearForm.{LinearForm, constant, symbol, below, plus, times, minus, keep, keep_all, merge_into}
+use Rattle.side_certs.specs.LinearForm.{merge, terms_times, terms_at, value_at}
 use Rattle.side_certs.proofs.laws.Products.{sum_times, times_sum, times_times, times_nothing}
 use Rattle.side_certs.proofs.laws.Coefficients.{Below}
 
@@ -18,20 +20,24 @@ module _ (v : ℕ → ℕ) where
     is_zero e = grind (arith, Decides-int_eq)
 
     by : (zero : Bool) → int_eq k (pos 0) ≡ zero → terms_at v (keep s k ts) ≡ (k *ℤ pos (v s)) +ℤ terms_at v ts
-    by true e = let none : k *ℤ pos (v s) ≡ pos 0 = ap (λ z. z *ℤ pos (v s)) (is_zero e) ∙ nothing_times (v s) in rw e (omega (arith, ints, none))
+    by true e = let none : k *ℤ pos (v s) ≡ pos 0 = ap (λ z. z *ℤ pos (v s)) (is_zero e) ∙ nothing_times (v s) in
+        rw e (omega (arith, ints, none))
     by false e = rw e refl
 
   terms_keep_all : (ts : List (ℕ × ℤ)) → terms_at v (keep_all ts) ≡ terms_at v ts
   terms_keep_all [] = refl
   terms_keep_all (t ∷ ts) = terms_keep t.0 t.1 (keep_all ts) ∙ ap (λ z. (t.1 *ℤ pos (v t.0)) +ℤ z) (terms_keep_all ts)
 
-  terms_into : (t : ℕ × ℤ) (ts : List (ℕ × ℤ)) (rest : List (ℕ × ℤ) → List (ℕ × ℤ)) → ((us : List (ℕ × ℤ)) → terms_at v (rest us) ≡ terms_at v ts +ℤ terms_at v us)
+  terms_into : (t : ℕ × ℤ) (ts : List (ℕ × ℤ)) (rest : List (ℕ × ℤ) → List (ℕ × ℤ))
+      → ((us : List (ℕ × ℤ)) → terms_at v (rest us) ≡ terms_at v ts +ℤ terms_at v us)
       → (us : List (ℕ × ℤ)) → terms_at v (merge_into t rest us) ≡ terms_at v (t ∷ ts) +ℤ terms_at v us
   terms_into t ts rest adds [] = let one = terms_keep t.0 t.1 (rest []) in let more = adds [] in omega (arith, ints, one, more)
   terms_into t ts rest adds (u ∷ us) = by (terms_into t ts rest adds us) (nat_lt t.0 u.0) (nat_eq t.0 u.0) refl refl where
-    by : terms_at v (merge_into t rest us) ≡ terms_at v (t ∷ ts) +ℤ terms_at v us → (less equal : Bool) → nat_lt t.0 u.0 ≡ less → nat_eq t.0 u.0 ≡ equal
+    by : terms_at v (merge_into t rest us) ≡ terms_at v (t ∷ ts) +ℤ terms_at v us → (less equal : Bool) → nat_lt t.0 u.0 ≡ less
+        → nat_eq t.0 u.0 ≡ equal
         → terms_at v (merge_into t rest (u ∷ us)) ≡ terms_at v (t ∷ ts) +ℤ terms_at v (u ∷ us)
-    by next true equal l e = let one = terms_keep t.0 t.1 (rest (u ∷ us)) in let more = adds (u ∷ us) in rw l (omega (arith, ints, one, more))
+    by next true equal l e = let one = terms_keep t.0 t.1 (rest (u ∷ us)) in let more = adds (u ∷ us) in
+        rw l (omega (arith, ints, one, more))
     by next false true l e =
         let one = terms_keep t.0 (t.1 +ℤ u.1) (rest us) in
         let more = adds us in
@@ -57,7 +63,8 @@ module _ (v : ℕ → ℕ) where
   value_times k f = ap (λ z. (k *ℤ f.constant) +ℤ z) (terms_scaled k f.terms) ∙ sym (times_sum k f.constant (terms_at v f.terms))
 
   pub value_minus : (f g : LinearForm) → value_at v (minus f g) ≡ value_at v f +ℤ neg_ℤ (value_at v g)
-  value_minus f g = let whole = value_plus f (times (negsuc 0) g) in let other = value_times (negsuc 0) g in omega (arith, ints, whole, other)
+  value_minus f g = let whole = value_plus f (times (negsuc 0) g) in let other = value_times (negsuc 0) g in
+      omega (arith, ints, whole, other)
 
   pub value_constant : (k : ℤ) → value_at v (constant k) ≡ k
   value_constant k = omega (arith, ints)
@@ -69,12 +76,14 @@ module _ (v : ℕ → ℕ) where
   value_below top s = omega (arith, ints)
 
 -- a form has one value for all numbers that agree where it has symbols
-pub terms_same : (v w : ℕ → ℕ) (n : ℕ) → ((s : ℕ) → s < n → w s ≡ v s) → (ts : List (ℕ × ℤ)) → Below n ts → terms_at w ts ≡ terms_at v ts
+pub terms_same : (v w : ℕ → ℕ) (n : ℕ) → ((s : ℕ) → s < n → w s ≡ v s) → (ts : List (ℕ × ℤ)) → Below n ts
+    → terms_at w ts ≡ terms_at v ts
 terms_same v w n agree [] all = refl
 terms_same v w n agree (t ∷ ts) all =
     let first : t.1 *ℤ pos (w t.0) ≡ t.1 *ℤ pos (v t.0) = ap (λ (m : ℕ). t.1 *ℤ pos m) (agree t.0 all.0) in
     let rest : terms_at w ts ≡ terms_at v ts = terms_same v w n agree ts all.1 in
     omega (arith, ints, first, rest)
 
-pub value_same : (v w : ℕ → ℕ) (n : ℕ) → ((s : ℕ) → s < n → w s ≡ v s) → (f : LinearForm) → Below n f.terms → value_at w f ≡ value_at v f
+pub value_same : (v w : ℕ → ℕ) (n : ℕ) → ((s : ℕ) → s < n → w s ≡ v s) → (f : LinearForm) → Below n f.terms
+    → value_at w f ≡ value_at v f
 value_same v w n agree f all = ap (λ z. f.constant +ℤ z) (terms_same v w n agree f.terms all)

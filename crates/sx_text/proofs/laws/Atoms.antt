@@ -1,5 +1,6 @@
 -- An atom in front of bytes that go on no atom.
-use Rattle.std.proofs.Common.{◌≡◌, refl, ap, ℕ, ◌+◌, Bool, true, false, ◌&&◌, List, [], ◌∷◌, ◌++◌, ◌≤◌, length, length-append, take, arith}
+use Rattle.std.proofs.Common.{◌≡◌, refl, ap, ℕ, ◌+◌, Bool, true, false, ◌&&◌, List, [], ◌∷◌, ◌++◌, ◌≤◌, length, length-append}
+use Rattle.std.proofs.Common.{take, arith}
 use Rattle.std.proofs.Math.Seq.{drop-append_seam}
 use Rattle.std.specs.List.{list_all}
 use Rattle.sx_text.specs.declared.byte_class.Class.{Class}
@@ -37,7 +38,13 @@ module _ (b : ℕ) (bs more : List ℕ) (at : ℕ) (h : in_atom b && list_all in
       let p = and_parts (in_atom b) (list_all in_atom bs) h in
       let moved : at + 1 + length bs ≡ at + length (b ∷ bs) = omega arith in
       rw (word_class (class b) p.0, rest_of)
-      (rw (word_length-append bs more p.1 ends, take-seam bs more, rest_of-skipped (length bs) (at + 1) (bs ++ more), drop-append_seam bs more, moved) refl)
+      (rw (
+        word_length-append bs more p.1 ends,
+        take-seam bs more,
+        rest_of-skipped (length bs) (at + 1) (bs ++ more),
+        drop-append_seam bs more,
+        moved,
+      ) refl)
 
   pub fault-atom : (level : ℕ) → fault 0 level at ((b ∷ bs) ++ more) ≡ fault 0 level (at + length (b ∷ bs)) more
   unfolding fault
@@ -46,4 +53,10 @@ module _ (b : ℕ) (bs more : List ℕ) (at : ℕ) (h : in_atom b && list_all in
       let moved : at + 1 + length bs ≡ at + length (b ∷ bs) = omega arith in
       let fits : length bs ≤ length (bs ++ more) = omega (arith, length-append bs more) in
       rw (word_class (class b) p.0, fault)
-      (rw (word_length-append bs more p.1 ends, fault-skipped (length bs) level (at + 1) (bs ++ more) fits, drop-append_seam bs more, moved) refl)
+      (rw (
+        word_length-append bs more p.1 ends,
+        fault-skipped (length bs) level (at + 1) (bs ++ more) fits,
+        drop-append_seam bs
+            more,
+        moved,
+      ) refl)

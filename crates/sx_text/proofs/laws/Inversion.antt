@@ -60,7 +60,8 @@ layer (x.Kids p ks) = subst Inverts (sym (rolls-Kids p ks)) (at-Kids p ks)
 inverts : (s : Sx) → Inverts s
 inverts s = subst Inverts (roll-out-Sx s) (layer (out-Sx s))
 
-pub list_of : (s : Sx) → (ks : List Sx) → bare s ≡ Kids (place 0 0) ks → (p : Place) × (cs : List Sx) × (s ≡ Kids p cs) × (map bare cs ≡ ks)
+pub list_of : (s : Sx) → (ks : List Sx) → bare s ≡ Kids (place 0 0) ks → (p : Place) × (cs : List Sx) × (s ≡ Kids p cs)
+    × (map bare cs ≡ ks)
 list_of s = (inverts s).0
 
 pub atom_of : (s : Sx) → (t : List ℕ) → bare s ≡ Atom (place 0 0) t → (p : Place) × (s ≡ Atom p t)

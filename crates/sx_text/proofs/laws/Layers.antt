@@ -6,7 +6,8 @@ use Rattle.sx_text.specs.declared.tree.Sx.{Sx, fold-roll-Sx}
 use Rattle.sx_text.specs.declared.tree.Sx.TheVariants.{Atom, Kids, rolls-Atom, rolls-Kids}
 use Rattle.sx_text.specs.declared.tree.Sx.TheOpen as x
 use Rattle.sx_text.specs.Forms.{place}
-use Rattle.sx_text.specs.Spelling.{text, text_step, levels, levels_step, is_spelled, is_spelled_step, is_atom, bare, bare_step, spaced}
+use Rattle.sx_text.specs.Spelling.{text, text_step, levels, levels_step, is_spelled, is_spelled_step, is_atom, bare, bare_step}
+use Rattle.sx_text.specs.Spelling.{spaced}
 
 pub text-Atom : (p : Place) (t : List ℕ) → text (Atom p t) ≡ t
 text-Atom p t = ap text (sym (rolls-Atom p t)) ∙ fold-roll-Sx (List ℕ) text_step (x.Atom p t)

@@ -1,5 +1,6 @@
 -- What is printed is read back.
-use Rattle.std.proofs.Common.{◌≡◌, refl, sym, ◌∙◌, ap, subst, ℕ, suc, ◌+◌, ◌≤◌, nat_eq, true, false, List, [], ◌∷◌, ◌++◌, map, append_assoc, append-nil, length, length-append, arith, Result, Ok, None}
+use Rattle.std.proofs.Common.{◌≡◌, refl, sym, ◌∙◌, ap, subst, ℕ, suc, ◌+◌, ◌≤◌, nat_eq, true, false, List, [], ◌∷◌, ◌++◌, map}
+use Rattle.std.proofs.Common.{append_assoc, append-nil, length, length-append, arith, Result, Ok, None}
 use Rattle.std.proofs.lemmas.Grind.{common_steps}
 use Rattle.rup_base.specs.Spelling.{behind_spaces}
 use Rattle.rup_base.specs.declared.arg.Place.{Place}
@@ -119,8 +120,11 @@ read-Kids p ks at more h ends =
     (read.1 ∙ ap (λ (r : Rest). r.1) closes) in
     let moved : at + length (40 ∷ inside ++ 41 ∷ []) ≡ end + 1 = omega (arith, length-append inside (41 ∷ [])) in
     rw text-Kids (rw moved (
-      ap (λ (r : Rest). map bare r.0) (rest_of-opened at _ ∙ ap (λ (l : List ℕ). opened at (rest_of 0 (at + 1) l)) (append_assoc inside (41 ∷ []) more)) ∙ same.0,
-      ap (λ (r : Rest). r.1) (rest_of-opened at _ ∙ ap (λ (l : List ℕ). opened at (rest_of 0 (at + 1) l)) (append_assoc inside (41 ∷ []) more)) ∙ same.1,
+      ap (λ (r : Rest). map bare r.0)
+          (rest_of-opened at _ ∙ ap (λ (l : List ℕ). opened at (rest_of 0 (at + 1) l)) (append_assoc inside (41 ∷ []) more))
+          ∙ same.0,
+      ap (λ (r : Rest). r.1) (rest_of-opened at _
+          ∙ ap (λ (l : List ℕ). opened at (rest_of 0 (at + 1) l)) (append_assoc inside (41 ∷ []) more)) ∙ same.1,
     ))
 
 fault-space : (level at : ℕ) (more : List ℕ) → fault 0 level at (32 ∷ more) ≡ fault 0 level (at + 1) more
@@ -131,13 +135,15 @@ fault-closed : (level at : ℕ) (more : List ℕ) → fault 0 (suc level) at (41
 unfolding fault
 fault-closed level at more = refl
 
-fault-opened : (level at : ℕ) (more : List ℕ) → nat_eq level deepest ≡ false → fault 0 level at (40 ∷ more) ≡ fault 0 (level + 1) (at + 1) more
+fault-opened : (level at : ℕ) (more : List ℕ) → nat_eq level deepest ≡ false
+    → fault 0 level at (40 ∷ more) ≡ fault 0 (level + 1) (at + 1) more
 unfolding fault
 fault-opened level at more h = rw (h, fault) refl
 
 behind_faultless : (ks : List Proved) (level at : ℕ) (more : List ℕ) → all_true (map is_spelled (forms_of ks)) ≡ true
     → level + greatest (map levels (forms_of ks)) ≤ deepest → word_length more ≡ 0
-    → fault 0 level at (behind_spaces (map text (forms_of ks)) ++ more) ≡ fault 0 level (at + length (behind_spaces (map text (forms_of ks)))) more
+    → fault 0 level at (behind_spaces (map text (forms_of ks)) ++ more)
+    ≡ fault 0 level (at + length (behind_spaces (map text (forms_of ks)))) more
 behind_faultless [] level at more h l ends = let e : at + 0 ≡ at = omega arith in rw e refl
 behind_faultless (k ∷ ks) level at more h l ends =
     let p = and_parts (is_spelled k.0) (all_true (map is_spelled (forms_of ks))) h in
@@ -153,7 +159,8 @@ behind_faultless (k ∷ ks) level at more h l ends =
 
 spaced_faultless : (ks : List Proved) (level at : ℕ) (more : List ℕ) → all_true (map is_spelled (forms_of ks)) ≡ true
     → level + greatest (map levels (forms_of ks)) ≤ deepest → word_length more ≡ 0
-    → fault 0 level at (spaced (map text (forms_of ks)) ++ more) ≡ fault 0 level (at + length (spaced (map text (forms_of ks)))) more
+    → fault 0 level at (spaced (map text (forms_of ks)) ++ more)
+    ≡ fault 0 level (at + length (spaced (map text (forms_of ks)))) more
 spaced_faultless [] level at more h l ends = let e : at + 0 ≡ at = omega arith in rw e refl
 spaced_faultless (k ∷ ks) level at more h l ends =
     let p = and_parts (is_spelled k.0) (all_true (map is_spelled (forms_of ks))) h in
@@ -175,7 +182,8 @@ faultless-Kids p ks level at more h l ends =
     let shallow : nat_eq level deepest ≡ false = grind (arith, common_steps) in
     let deeper : level + 1 ≡ suc level = omega arith in
     let kids : suc level + greatest (map levels (forms_of ks)) ≤ deepest = omega arith in
-    let moved : at + length (40 ∷ inside ++ 41 ∷ []) ≡ at + 1 + length inside + 1 = omega (arith, length-append inside (41 ∷ [])) in
+    let moved : at + length (40 ∷ inside ++ 41 ∷ []) ≡ at + 1 + length inside + 1 = omega (arith, length-append inside (41 ∷ []))
+    in
     rw text-Kids (rw moved
     (fault-opened level at _ shallow
     ∙ ap (λ (n : ℕ). fault 0 n (at + 1) ((inside ++ 41 ∷ []) ++ more)) deeper

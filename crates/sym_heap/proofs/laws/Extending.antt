@@ -1,5 +1,6 @@
 -- What a context gains: with a further symbol, and with a further fact that holds, a state fits it that fitted it before.
-use Rattle.std.proofs.Common.{◌≡◌, refl, sym, ◌∙◌, ap, subst, arith, ℕ, zero, suc, ◌<◌, ◌≤◌, nat_eq, Bool, true, false, List, [], ◌∷◌, ◌++◌, length, Option, Some, None, slice_get, if◌then◌else◌, ℤ, pos, ◌≤ℤ◌}
+use Rattle.std.proofs.Common.{◌≡◌, refl, sym, ◌∙◌, ap, subst, arith, ℕ, zero, suc, ◌<◌, ◌≤◌, nat_eq, Bool, true, false, List, []}
+use Rattle.std.proofs.Common.{◌∷◌, ◌++◌, length, Option, Some, None, slice_get, if◌then◌else◌, ℤ, pos, ◌≤ℤ◌}
 use Rattle.std.specs.List.{find}
 use Rattle.std.proofs.lemmas.Bool.Decides.{nat_tests}
 use Rattle.std.proofs.lemmas.Option.{slice_get_within}
@@ -88,8 +89,10 @@ pub agree_on : (n m : ℕ) (u v w : ℕ → ℕ) → n ≤ m → Agree n u v →
 agree_on n m u v w less one two s below = two s (omega (arith, less, below)) ∙ one s below
 
 -- other numbers of symbols that have no top
-module _ (call : Call) (v w : ℕ → ℕ) (c : Context) (env : Env) (mem : Bytes) (locals : Locals) (agree : Agree (length c.tops) v w) (fits : FitsBy call v c env mem locals) where
-  scalar_refits : (h : Held) (found : Option Arg) → Known (length c.tops) h.form → ScalarFits v h found locals → ScalarFits w h found locals
+module _ (call : Call) (v w : ℕ → ℕ) (c : Context) (env : Env) (mem : Bytes) (locals : Locals) (agree : Agree (length c.tops) v w)
+    (fits : FitsBy call v c env mem locals) where
+  scalar_refits : (h : Held) (found : Option Arg) → Known (length c.tops) h.form → ScalarFits v h found locals
+      → ScalarFits w h found locals
   scalar_refits h found known s = record {
     number = s.number;
     value = s.value;
@@ -98,7 +101,8 @@ module _ (call : Call) (v w : ℕ → ℕ) (c : Context) (env : Env) (mem : Byte
     local = s.local;
   }
 
-  clause_refits : (k : Clause) (found : Option Arg) → Known (length c.tops) k.length → ClauseFits call v k found mem locals → ClauseFits call w k found mem locals
+  clause_refits : (k : Clause) (found : Option Arg) → Known (length c.tops) k.length → ClauseFits call v k found mem locals
+      → ClauseFits call w k found mem locals
   clause_refits k found known s = record {
     array = s.array;
     form = known_value v w (length c.tops) k.length agree known ∙ s.form;
@@ -115,13 +119,17 @@ module _ (call : Call) (v w : ℕ → ℕ) (c : Context) (env : Env) (mem : Byte
   refits = record {
     consistent = fits.consistent;
     entry_count = fits.entry_count;
-    entries = λ s n at. (let inside : s < length call.entries = slice_get_within call.entries s n at in agree s (omega (arith, inside, fits.entry_count, fits.consistent.entries_known)) ∙ fits.entries s n at);
+    entries = λ s n at. (let inside : s < length call.entries = slice_get_within call.entries s n at in
+        agree s (omega (arith, inside, fits.entry_count, fits.consistent.entries_known)) ∙ fits.entries s n at);
     holds = (
-      λ i f at. subst (λ (z : ℤ). pos 0 ≤ℤ z) (sym (known_value v w (length c.tops) f agree (fits.consistent.facts_known i f at))) (fits.holds.0 i f at),
+      λ i f at. subst (λ (z : ℤ). pos 0 ≤ℤ z) (sym (known_value v w (length c.tops) f agree (fits.consistent.facts_known i f at)))
+          (fits.holds.0 i f at),
       λ s top at. subst (λ (z : ℕ). z ≤ top) (sym (agree s (slice_get_within c.tops s top at))) (fits.holds.1 s top at),
     );
-    scalars = λ x h found. (let s = somewhere (is_scalar x) c.scalars h found in scalar_refits h (value_of env x) (fits.consistent.scalars_known s.place h s.at) (fits.scalars x h found));
-    clauses = λ a k found. (let s = somewhere (is_clause a) c.clauses k found in clause_refits k (value_of env a) (fits.consistent.lengths_known s.place k s.at) (fits.clauses a k found));
+    scalars = λ x h found. (let s = somewhere (is_scalar x) c.scalars h found in
+        scalar_refits h (value_of env x) (fits.consistent.scalars_known s.place h s.at) (fits.scalars x h found));
+    clauses = λ a k found. (let s = somewhere (is_clause a) c.clauses k found in
+        clause_refits k (value_of env a) (fits.consistent.lengths_known s.place k s.at) (fits.clauses a k found));
     ranges = fits.ranges;
   }
 
@@ -162,7 +170,8 @@ consistent_fact c f known is = record {
 pub fits_top : (call : Call) (v : ℕ → ℕ) (c : Context) (top n : ℕ) (env : Env) (mem : Bytes) (locals : Locals) → n ≤ top
     → FitsBy call v c env mem locals → FitsBy call (given v (length c.tops) n) (with_top top c) env mem locals
 fits_top call v c top n env mem locals small fits =
-    let again : FitsBy call (given v (length c.tops) n) c env mem locals = refits call v (given v (length c.tops) n) c env mem locals (given_agrees v (length c.tops) n) fits in
+    let again : FitsBy call (given v (length c.tops) n) c env mem locals =
+    refits call v (given v (length c.tops) n) c env mem locals (given_agrees v (length c.tops) n) fits in
     record {
       consistent = consistent_top c top fits.consistent;
       entry_count = again.entry_count;
@@ -173,14 +182,16 @@ fits_top call v c top n env mem locals small fits =
       ranges = again.ranges;
     }
   where
-    by : (s most : ℕ) → FitsBy call (given v (length c.tops) n) c env mem locals → Behind c.tops top s most → given v (length c.tops) n s ≤ most
+    by : (s most : ℕ) → FitsBy call (given v (length c.tops) n) c env mem locals → Behind c.tops top s most
+        → given v (length c.tops) n s ≤ most
     by s most again (before at) = again.holds.1 s most at
     by s most again (last place is) =
         let here : given v (length c.tops) n s ≡ n = ap (given v (length c.tops) n) place ∙ given_here v (length c.tops) n in
         omega (arith, here, is, small)
 
 -- a fact that holds may be added
-pub fits_fact : (call : Call) (v : ℕ → ℕ) (c : Context) (f : LinearForm) (env : Env) (mem : Bytes) (locals : Locals) → Known (length c.tops) f → pos 0 ≤ℤ value_at v f
+pub fits_fact : (call : Call) (v : ℕ → ℕ) (c : Context) (f : LinearForm) (env : Env) (mem : Bytes) (locals : Locals)
+    → Known (length c.tops) f → pos 0 ≤ℤ value_at v f
     → FitsBy call v c env mem locals → FitsBy call v (with_fact f c) env mem locals
 fits_fact call v c f env mem locals known true_one fits = record {
   consistent = consistent_fact c f known fits.consistent;

@@ -1,5 +1,6 @@
 -- A context fits after a write to an array as it did before.
-use Rattle.std.proofs.Common.{◌≡◌, refl, sym, ◌∙◌, ap, subst, arith, ℕ, suc, ◌+◌, ◌*◌, ◌%◌, ◌^◌, ◌<◌, ◌≤◌, Bool, true, false, List, [], ◌∷◌, ◌++◌, length, Option, Some, None, pos, slice_get, length-append, mul-le-mul_left}
+use Rattle.std.proofs.Common.{◌≡◌, refl, sym, ◌∙◌, ap, subst, arith, ℕ, suc, ◌+◌, ◌*◌, ◌%◌, ◌^◌, ◌<◌, ◌≤◌, Bool, true, false}
+use Rattle.std.proofs.Common.{List, [], ◌∷◌, ◌++◌, length, Option, Some, None, pos, slice_get, length-append, mul-le-mul_left}
 use Rattle.std.specs.FinMap.{get}
 use Rattle.std.specs.Int.{w32, to_le_bytes}
 use Rattle.std.specs.List.{find, flat_map}
@@ -16,7 +17,8 @@ use Rattle.sym_heap.specs.declared.parts.Held.{Held}
 use Rattle.sym_heap.specs.declared.parts.Clause.{Clause}
 use Rattle.sym_heap.specs.Context.{Context, scalar, own, has, is_clause, change_first, with_clause, written}
 use Rattle.sym_heap.specs.Elements.{element_bytes, element_top}
-use Rattle.sym_heap.specs.Fits.{Call, Locals, IsArray, array_bytes, range_of, ScalarFits, ClauseFits, FitsBy, ArgsHeld, Known, IsConsistent}
+use Rattle.sym_heap.specs.Fits.{Call, Locals, IsArray, array_bytes, range_of, ScalarFits, ClauseFits, FitsBy, ArgsHeld, Known}
+use Rattle.sym_heap.specs.Fits.{IsConsistent}
 use Rattle.sym_heap.specs.Writes.{element_range, IsWritten}
 use Rattle.sym_heap.proofs.Fitting.{somewhere}
 use Rattle.sym_heap.proofs.Named.{unlike, ChangedAt, here as changed, there as unchanged, changed_at}
@@ -28,14 +30,18 @@ chunks_length : (ns : List ℕ) → length (flat_map (to_le_bytes w32) ns) ≡ 4
 chunks_length [] = refl
 chunks_length (n ∷ ns) =
     let rest = chunks_length ns in
-    let joined : length (to_le_bytes w32 n ++ flat_map (to_le_bytes w32) ns) ≡ length (to_le_bytes w32 n) + length (flat_map (to_le_bytes w32) ns) = length-append (to_le_bytes w32 n) (flat_map (to_le_bytes w32) ns) in
+    let joined : length (to_le_bytes w32 n ++ flat_map (to_le_bytes w32) ns)
+    ≡ length (to_le_bytes w32 n) + length (flat_map (to_le_bytes w32) ns) =
+    length-append (to_le_bytes w32 n) (flat_map (to_le_bytes w32) ns) in
     let four : length (to_le_bytes w32 n) ≡ 4 = refl in
     omega (arith, rest, joined, four)
 
-pub bytes_length : (size : ℕ) (found : Option Arg) → IsArray size found → length (array_bytes found) ≡ size * length (elements found)
+pub bytes_length : (size : ℕ) (found : Option Arg) → IsArray size found
+    → length (array_bytes found) ≡ size * length (elements found)
 bytes_length size None is = absurd is
 bytes_length size (Some (arg.Word n)) is = absurd is
-bytes_length size (Some (arg.Bytes ns)) is = let product : 1 * length ns ≡ length ns = omega arith in sym (ap (λ s. s * length ns) is.0 ∙ product)
+bytes_length size (Some (arg.Bytes ns)) is = let product : 1 * length ns ≡ length ns = omega arith in
+    sym (ap (λ s. s * length ns) is.0 ∙ product)
 bytes_length size (Some (arg.Words ns)) is = chunks_length ns ∙ sym (ap (λ s. s * length ns) is.0)
 
 as_many : (i n : ℕ) (found : Option Arg) → length (elements (with_element i n found)) ≡ length (elements found)
@@ -46,13 +52,18 @@ as_many i n (Some (arg.Words ns)) = length-set ns i n
 
 -- Clauses.
 
-written_clause : (call : Call) (numbers : ℕ → ℕ) (k : Clause) (i n : ℕ) (found : Option Arg) (mem after : Bytes) (locals : Locals) → ClauseFits call numbers k found mem locals
-    → i < length (elements found) → n ≤ element_top k.size → Stands after (call.pointers k.param + k.size * i) (element_bytes k.size n)
-    → ((address : ℕ) → (Within (element_range call k i) address → ⊥) → get after address ≡ get mem address) → ClauseFits call numbers k (with_element i n found) after locals
+written_clause : (call : Call) (numbers : ℕ → ℕ) (k : Clause) (i n : ℕ) (found : Option Arg) (mem after : Bytes) (locals : Locals)
+    → ClauseFits call numbers k found mem locals
+    → i < length (elements found) → n ≤ element_top k.size
+    → Stands after (call.pointers k.param + k.size * i) (element_bytes k.size n)
+    → ((address : ℕ) → (Within (element_range call k i) address → ⊥) → get after address ≡ get mem address)
+    → ClauseFits call numbers k (with_element i n found) after locals
 written_clause call numbers k i n found mem after locals f inside small bytes others =
     let new = element_written k.size found mem after (call.pointers k.param) i n f.array f.stands inside small bytes others in
     let many = as_many i n found in
-    let long : length (array_bytes (with_element i n found)) ≡ length (array_bytes found) = bytes_length k.size (with_element i n found) new.0 ∙ ap (λ m. k.size * m) many ∙ sym (bytes_length k.size found f.array) in
+    let long : length (array_bytes (with_element i n found))
+    ≡ length (array_bytes found) = bytes_length k.size (with_element i n found) new.0 ∙ ap (λ m. k.size * m) many
+    ∙ sym (bytes_length k.size found f.array) in
     record {
       array = new.0;
       form = f.form ∙ ap pos (sym many);
@@ -66,7 +77,8 @@ written_clause call numbers k i n found mem after locals f inside small bytes ot
     }
 
 -- the range of an element is inside the range of its array
-inside_range : (call : Call) (numbers : ℕ → ℕ) (k : Clause) (i : ℕ) (found : Option Arg) (mem : Bytes) (locals : Locals) → ClauseFits call numbers k found mem locals → i < length (elements found)
+inside_range : (call : Call) (numbers : ℕ → ℕ) (k : Clause) (i : ℕ) (found : Option Arg) (mem : Bytes) (locals : Locals)
+    → ClauseFits call numbers k found mem locals → i < length (elements found)
     → (address : ℕ) → Within (element_range call k i) address → Within (range_of call k.param) address
 inside_range call numbers k i found mem locals f less address at =
     let long : length (array_bytes found) ≡ k.size * length (elements found) = bytes_length k.size found f.array in
@@ -82,15 +94,19 @@ inside_range call numbers k i found mem locals f less address at =
         let times : s * suc j ≤ s * m = mul-le-mul_left s next in
         omega (arith, times)
 
-other_clause : (call : Call) (numbers : ℕ → ℕ) (l : Clause) (r : Range) (found : Option Arg) (mem after : Bytes) (locals : Locals) → ClauseFits call numbers l found mem locals
-    → ((address : ℕ) → Within r address → Within (range_of call l.param) address → ⊥) → ((address : ℕ) → (Within r address → ⊥) → get after address ≡ get mem address) → ClauseFits call numbers l found after locals
+other_clause : (call : Call) (numbers : ℕ → ℕ) (l : Clause) (r : Range) (found : Option Arg) (mem after : Bytes) (locals : Locals)
+    → ClauseFits call numbers l found mem locals
+    → ((address : ℕ) → Within r address → Within (range_of call l.param) address → ⊥)
+    → ((address : ℕ) → (Within r address → ⊥) → get after address ≡ get mem address)
+    → ClauseFits call numbers l found after locals
 other_clause call numbers l r found mem after locals f apart others = record {
   array = f.array;
   form = f.form;
   length_local = f.length_local;
   parameter = f.parameter;
   pointer = f.pointer;
-  stands = λ j b at. others (call.pointers l.param + j) (λ within. apart (call.pointers l.param + j) within (inside j b at)) ∙ f.stands j b at;
+  stands = λ j b at. others (call.pointers l.param + j) (λ within. apart (call.pointers l.param + j) within (inside j b at))
+      ∙ f.stands j b at;
   few = f.few;
   aligned = f.aligned;
   ends = f.ends;
@@ -101,11 +117,14 @@ other_clause call numbers l r found mem after locals f apart others = record {
       let size : length (array_bytes found) ≡ call.sizes l.param = f.parameter in
       (omega arith, omega (arith, less, size))
 
-pub no_scalar : (call : Call) (numbers : ℕ → ℕ) (k : Clause) (h : Held) (found : Option Arg) (mem : Bytes) (locals : Locals) → ClauseFits call numbers k found mem locals → ScalarFits numbers h found locals → ⊥
+pub no_scalar : (call : Call) (numbers : ℕ → ℕ) (k : Clause) (h : Held) (found : Option Arg) (mem : Bytes) (locals : Locals)
+    → ClauseFits call numbers k found mem locals → ScalarFits numbers h found locals → ⊥
 no_scalar call numbers k h found mem locals f s = subst (λ (o : Option Arg). IsArray k.size o) s.value f.array
 
-pub written_fits : (call : Call) (numbers : ℕ → ℕ) (c : Context) (a : Name) (k : Clause) (i n : ℕ) (env after_env : Env) (mem after : Bytes) (locals : Locals)
-    → FitsBy call numbers c env mem locals → own c a ≡ Some k → IsWritten call a k i n env after_env mem after → FitsBy call numbers c after_env after locals
+pub written_fits : (call : Call) (numbers : ℕ → ℕ) (c : Context) (a : Name) (k : Clause) (i n : ℕ) (env after_env : Env)
+    (mem after : Bytes) (locals : Locals)
+    → FitsBy call numbers c env mem locals → own c a ≡ Some k → IsWritten call a k i n env after_env mem after
+    → FitsBy call numbers c after_env after locals
 written_fits call numbers c a k i n env after_env mem after locals fits is w = record {
   consistent = fits.consistent;
   entry_count = fits.entry_count;
@@ -118,8 +137,11 @@ written_fits call numbers c a k i n env after_env mem after locals fits is w = r
   f : ClauseFits call numbers k (value_of env a) mem locals
   f = fits.clauses a k is
 
-  scalars : (x : Name) (h : Held) → scalar c x ≡ Some h → (b : Bool) → same a x ≡ b → ScalarFits numbers h (value_of after_env x) locals
-  scalars x h at true e = absurd (no_scalar call numbers k h (value_of env a) mem locals f (subst (λ (y : Name). ScalarFits numbers h (value_of env y) locals) (sym (same_is a x e)) (fits.scalars x h at)))
+  scalars : (x : Name) (h : Held) → scalar c x ≡ Some h → (b : Bool) → same a x ≡ b
+      → ScalarFits numbers h (value_of after_env x) locals
+  scalars x h at true e = absurd
+      (no_scalar call numbers k h (value_of env a) mem locals f
+      (subst (λ (y : Name). ScalarFits numbers h (value_of env y) locals) (sym (same_is a x e)) (fits.scalars x h at)))
   scalars x h at false e = subst (λ (o : Option Arg). ScalarFits numbers h o locals) (sym (w.values x e)) (fits.scalars x h at)
 
   far : (b : Name) (l : Clause) → own c b ≡ Some l → same a b ≡ false → Apart (range_of call k.param) (range_of call l.param)
@@ -133,7 +155,8 @@ written_fits call numbers c a k i n env after_env mem after locals fits is w = r
       let named_b : l.name ≡ b = same_is l.name b two.passes in
       unlike a b e (sym named_a ∙ ap (λ (z : Clause). z.name) one_clause ∙ named_b))
 
-  clauses : (b : Name) (l : Clause) → own c b ≡ Some l → (t : Bool) → same a b ≡ t → ClauseFits call numbers l (value_of after_env b) after locals
+  clauses : (b : Name) (l : Clause) → own c b ≡ Some l → (t : Bool) → same a b ≡ t
+      → ClauseFits call numbers l (value_of after_env b) after locals
   clauses b l at true e =
       let name : a ≡ b = same_is a b e in
       let both : Some k ≡ Some l = sym is ∙ ap (own c) name ∙ at in
@@ -145,7 +168,8 @@ written_fits call numbers c a k i n env after_env mem after locals fits is w = r
   clauses b l at false e =
       subst (λ (o : Option Arg). ClauseFits call numbers l o after locals) (sym (w.values b e))
       (other_clause call numbers l (element_range call k i) (value_of env b) mem after locals (fits.clauses b l at)
-      (λ address one two. far b l at e address (inside_range call numbers k i (value_of env a) mem locals f w.inside address one) two) w.others)
+      (λ address one two. far b l at e address (inside_range call numbers k i (value_of env a) mem locals f w.inside address one)
+      two) w.others)
 
 -- Arguments.
 
@@ -154,10 +178,12 @@ data Counted (a b : Name) (ks : List Clause) (l : Clause) : Type 0 where
   here : (k : Clause) → find (is_clause b) ks ≡ Some k → same a b ≡ true → l ≡ written k → Counted a b ks l
   there : find (is_clause b) ks ≡ Some l → same a b ≡ false → Counted a b ks l
 
-counted : (a b : Name) (ks : List Clause) (l : Clause) → find (is_clause b) (change_first (is_clause a) written ks) ≡ Some l → Counted a b ks l
+counted : (a b : Name) (ks : List Clause) (l : Clause) → find (is_clause b) (change_first (is_clause a) written ks) ≡ Some l
+    → Counted a b ks l
 counted a b [] l at = absurd (let bad : None ≡ Some l = at in cc)
 counted a b (k ∷ ks) l at = by (same k.name a) refl (same k.name b) refl (same a b) refl at (counted a b ks l) where
-  by : (p : Bool) → same k.name a ≡ p → (q : Bool) → same k.name b ≡ q → (r : Bool) → same a b ≡ r → find (is_clause b) (change_first (is_clause a) written (k ∷ ks)) ≡ Some l
+  by : (p : Bool) → same k.name a ≡ p → (q : Bool) → same k.name b ≡ q → (r : Bool) → same a b ≡ r
+      → find (is_clause b) (change_first (is_clause a) written (k ∷ ks)) ≡ Some l
       → (find (is_clause b) (change_first (is_clause a) written ks) ≡ Some l → Counted a b ks l) → Counted a b (k ∷ ks) l
   by true e true q true r is more =
       let found : Some (written k) ≡ Some l = rw (e, q) at is in
@@ -183,7 +209,8 @@ record Was (ks : List Clause) (i : ℕ) (k : Clause) : Type 0 where
   pub length_same : k.length ≡ clause.length
   pub length_local : k.length_local ≡ clause.length_local
 
-was : (a : Name) (ks : List Clause) (i : ℕ) (k : Clause) → slice_get (change_first (is_clause a) written ks) i ≡ Some k → Was ks i k
+was : (a : Name) (ks : List Clause) (i : ℕ) (k : Clause) → slice_get (change_first (is_clause a) written ks) i ≡ Some k
+    → Was ks i k
 was a ks i k at = by (changed_at (λ (z : Clause). z.name) a written ks i k at) where
   by : ChangedAt (λ (z : Clause). z.name) a written ks i k → Was ks i k
   by (changed l found named place is) = record {
@@ -195,13 +222,22 @@ was a ks i k at = by (changed_at (λ (z : Clause). z.name) a written ks i k at) 
     length_same = ap (λ (z : Clause). z.length) is;
     length_local = ap (λ (z : Clause). z.length_local) is;
   }
-  by (unchanged found) = record { clause = k; at = found; name = refl; param = refl; pointer = refl; length_same = refl; length_local = refl }
+  by (unchanged found) = record {
+    clause = k;
+    at = found;
+    name = refl;
+    param = refl;
+    pointer = refl;
+    length_same = refl;
+    length_local = refl;
+  }
 
 pub counted_consistent : (c : Context) (a : Name) → IsConsistent c → IsConsistent (with_clause a written c)
 counted_consistent c a s = record {
   entries_known = s.entries_known;
   scalars_known = s.scalars_known;
-  lengths_known = λ i k at. (let w = was a c.clauses i k at in subst (λ (f : LinearForm). Known (length c.tops) f) (sym w.length_same) (s.lengths_known i w.clause w.at));
+  lengths_known = λ i k at. (let w = was a c.clauses i k at in
+      subst (λ (f : LinearForm). Known (length c.tops) f) (sym w.length_same) (s.lengths_known i w.clause w.at));
   facts_known = s.facts_known;
   scalars_apart = s.scalars_apart;
   clauses_apart = λ i j k l at_i at_j differ. (
@@ -209,11 +245,14 @@ counted_consistent c a s = record {
       let w = was a c.clauses j l at_j in
       let apart = s.clauses_apart i j v.clause w.clause v.at w.at differ in
       (ap (λ x. same x l.name) v.name ∙ ap (same v.clause.name) w.name ∙ apart.0, λ e. apart.1 (sym v.param ∙ e ∙ w.param)));
-  pointers_reserved = λ i k at. (let w = was a c.clauses i k at in ap (λ p. has p c.reserved) w.pointer ∙ s.pointers_reserved i w.clause w.at);
-  lengths_reserved = λ i k l at is. (let w = was a c.clauses i k at in s.lengths_reserved i w.clause l w.at (sym w.length_local ∙ is));
+  pointers_reserved = λ i k at. (let w = was a c.clauses i k at in
+      ap (λ p. has p c.reserved) w.pointer ∙ s.pointers_reserved i w.clause w.at);
+  lengths_reserved = λ i k l at is.
+      (let w = was a c.clauses i k at in s.lengths_reserved i w.clause l w.at (sym w.length_local ∙ is));
 }
 
-pub counted_fits : (call : Call) (numbers : ℕ → ℕ) (c : Context) (a : Name) (env : Env) (mem : Bytes) (locals : Locals) → FitsBy call numbers c env mem locals
+pub counted_fits : (call : Call) (numbers : ℕ → ℕ) (c : Context) (a : Name) (env : Env) (mem : Bytes) (locals : Locals)
+    → FitsBy call numbers c env mem locals
     → FitsBy call numbers (with_clause a written c) env mem locals
 counted_fits call numbers c a env mem locals fits = record {
   consistent = counted_consistent c a fits.consistent;
@@ -233,12 +272,24 @@ counted_fits call numbers c a env mem locals fits = record {
   clause b l (here k found same_name new) =
       let f = fits.clauses b k found in
       subst (λ (z : Clause). ClauseFits call numbers z (value_of env b) mem locals) (sym new)
-      (record { array = f.array; form = f.form; length_local = f.length_local; parameter = f.parameter; pointer = f.pointer; stands = f.stands; few = f.few; aligned = f.aligned; ends = f.ends })
+      (record {
+        array = f.array;
+        form = f.form;
+        length_local = f.length_local;
+        parameter = f.parameter;
+        pointer = f.pointer;
+        stands = f.stands;
+        few = f.few;
+        aligned = f.aligned;
+        ends = f.ends;
+      })
   clause b l (there found other) = fits.clauses b l found
 
-pub written_held : (args : List Arg) (c : Context) (a : Name) (env after_env : Env) → ArgsHeld args c env → ((b : Name) → same a b ≡ false → value_of after_env b ≡ value_of env b)
+pub written_held : (args : List Arg) (c : Context) (a : Name) (env after_env : Env) → ArgsHeld args c env
+    → ((b : Name) → same a b ≡ false → value_of after_env b ≡ value_of env b)
     → ArgsHeld args (with_clause a written c) after_env
 written_held args c a env after_env held values b l at none = by (counted a b c.clauses l at) where
   by : Counted a b c.clauses l → value_of after_env b ≡ slice_get args l.param
-  by (here k found same_name new) = let some : k.writes + 1 ≡ 0 = sym (ap (λ (z : Clause). z.writes) new) ∙ none in absurd (omega (arith, some))
+  by (here k found same_name new) = let some : k.writes + 1 ≡ 0 = sym (ap (λ (z : Clause). z.writes) new) ∙ none in
+      absurd (omega (arith, some))
   by (there found other) = values b other ∙ held b l found none

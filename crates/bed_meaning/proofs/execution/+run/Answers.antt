@@ -20,9 +20,13 @@ run_turns-returns-in_err-run-clause-came t c =
     let is : value c.args.e.now s.mem s.vars ≡ Some c.in_ok-value.value = search rules in
     let is_more : c.in_ok-value.value ≡ 0 → ⊥ = search rules in
     let fuel : s.fuel ≡ suc c.take_one.new.meter.fuel = search rules in
-    let ticks : c.take_one.new.meter.ticks ≡ s.ticks + (expr_weight c.args.w.now c.args.e.now + c.args.w.now.turn) = search rules in
-    let round = goes_round c.args.w.now c.args.limit c.loop-turn._turn c.args.e.now body s c.in_ok-value.value c.take_one.new.meter.fuel c.take_one.new.meter.ticks below is is_more fuel ticks in
-    let fails : (h : Halt) → body start ≡ Err h → loop_of c.args.w.now c.args.limit c.args.e.now body (state_of c.args.meter.now c.args.mem.now c.args.locals.now) ≡ Err h =
+    let ticks : c.take_one.new.meter.ticks ≡ s.ticks + (expr_weight c.args.w.now c.args.e.now + c.args.w.now.turn) =
+    search rules in
+    let round = goes_round c.args.w.now c.args.limit c.loop-turn._turn c.args.e.now body s c.in_ok-value.value
+    c.take_one.new.meter.fuel c.take_one.new.meter.ticks below is is_more fuel ticks in
+    let fails : (h : Halt) → body start ≡ Err h
+    → loop_of c.args.w.now c.args.limit c.args.e.now body (state_of c.args.meter.now c.args.mem.now c.args.locals.now)
+    ≡ Err h =
     λ h k. sym c.loop-turn.invariant.0 ∙ round ∙ ap (λ r. and_then r next) k in
     first_of (search (rules, fails), grind (arith, common_steps, fails))
 
@@ -35,6 +39,8 @@ run_turns-loop-turn-preserved t c =
     let is : value c.args.e.now s.mem s.vars ≡ Some c.in_ok-value.value = search rules in
     let is_more : c.in_ok-value.value ≡ 0 → ⊥ = search rules in
     let fuel : s.fuel ≡ suc c.take_one.new.meter.fuel = search rules in
-    let ticks : c.take_one.new.meter.ticks ≡ s.ticks + (expr_weight c.args.w.now c.args.e.now + c.args.w.now.turn) = search rules in
-    let round = goes_round c.args.w.now c.args.limit c.loop-turn._turn c.args.e.now body s c.in_ok-value.value c.take_one.new.meter.fuel c.take_one.new.meter.ticks below is is_more fuel ticks in
+    let ticks : c.take_one.new.meter.ticks ≡ s.ticks + (expr_weight c.args.w.now c.args.e.now + c.args.w.now.turn) =
+    search rules in
+    let round = goes_round c.args.w.now c.args.limit c.loop-turn._turn c.args.e.now body s c.in_ok-value.value
+    c.take_one.new.meter.fuel c.take_one.new.meter.ticks below is is_more fuel ticks in
     (sym (round ∙ ap (λ r. and_then r next) c.in_ok-run.ensures.came) ∙ c.loop-turn.invariant.0, search rules, search rules)

@@ -4,7 +4,8 @@ use Rattle.deriv_file.specs.Numbers as spec
 use Rattle.deriv_file.proofs.number.counts_of.Given as goal
 
 abbrev pub invariant-loop-left : goal.invariant-loop-left
-invariant-loop-left l = option_map (λ rest. l.counts ++ rest) (spec.counts_of (items_view l.left)) ≡ spec.counts_of (items_view l.items)
+invariant-loop-left l = option_map (λ rest. l.counts ++ rest) (spec.counts_of (items_view l.left))
+    ≡ spec.counts_of (items_view l.items)
 
 abbrev pub decreases-loop-left : goal.decreases-loop-left
 decreases-loop-left l = length l.left

@@ -10,5 +10,6 @@ invariant-push_block-loop-node l = map view l.out.items ++ map node_data (joined
     ≡ map view l.fn.out.items ++ map node_data (block_list l.block).nodes
 
 abbrev pub invariant-push_stmt-loop-block : goal.invariant-push_stmt-loop-block
-invariant-push_stmt-loop-block l = map view l.out.items ++ map node_data (joined (map nodes_of (map block_list (drop l.block-index l.block-items))))
+invariant-push_stmt-loop-block l =
+    map view l.out.items ++ map node_data (joined (map nodes_of (map block_list (drop l.block-index l.block-items))))
     ≡ map view l.fn.out.items ++ map node_data (stmt_list l.node)

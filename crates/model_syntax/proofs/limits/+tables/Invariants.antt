@@ -6,5 +6,6 @@ use Rattle.model_syntax.proofs.limits.+tables.Given as goal
 abbrev pub invariant-block_tables-loop-s : goal.invariant-block_tables-loop-s
 invariant-block_tables-loop-s l = record {
   fits : l.bytes ≤ 4294967295;
-  total : words.counted (l.bytes + sum (map spec.stmt_tables (drop l.s-index l.stmts))) ≡ words.counted (sum (map spec.stmt_tables l.stmts));
+  total : words.counted (l.bytes + sum (map spec.stmt_tables (drop l.s-index l.stmts)))
+      ≡ words.counted (sum (map spec.stmt_tables l.stmts));
 }

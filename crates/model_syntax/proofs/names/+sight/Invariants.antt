@@ -5,4 +5,5 @@ use Rattle.model_syntax.specs.Names as spec
 use Rattle.model_syntax.proofs.names.+sight.Given as goal
 
 abbrev pub invariant-sight_block-loop-s : goal.invariant-sight_block-loop-s
-invariant-sight_block-loop-s l = fold (spec.sight l.params) l.names.keys (joined (map spec.binds (drop l.s-index l.stmts))) ≡ fold (spec.sight l.params) l.fn.names.keys (joined (map spec.binds l.stmts))
+invariant-sight_block-loop-s l = fold (spec.sight l.params) l.names.keys (joined (map spec.binds (drop l.s-index l.stmts)))
+    ≡ fold (spec.sight l.params) l.fn.names.keys (joined (map spec.binds l.stmts))

@@ -3,4 +3,5 @@ use Rattle.model_syntax.specs.Types as spec
 use Rattle.model_types.proofs.carried.distinct.Given as goal
 
 abbrev pub invariant-loop-x : goal.invariant-loop-x
-invariant-loop-x l = spec.at l.place (spec.distinct l.seen.keys (drop l.x-index l.names)) ≡ spec.at l.place (spec.distinct [] l.names)
+invariant-loop-x l = spec.at l.place (spec.distinct l.seen.keys (drop l.x-index l.names))
+    ≡ spec.at l.place (spec.distinct [] l.names)

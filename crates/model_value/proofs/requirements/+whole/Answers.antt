@@ -7,14 +7,18 @@ use Rattle.model_value.proofs.requirements.+whole.Goals as goal
 pub overflow_add-result : goal.overflow_add-result
 overflow_add-result t c =
     let formed = subst (λ r. IsTrue (is_ok r)) (ap linear c.in-Sum.is ∙ linear_sum c.in-Sum.p c.in-Sum.q) c.requires.form in
-    let left = fits (linear c.in-Sum.p) c.whole.result (left_formed (linear c.in-Sum.p) _ formed) (rw c.deref.ensures at c.whole.ensures.below) in
-    let right = fits (linear c.in-Sum.q) c.whole-in-Sum.result (right_formed (linear c.in-Sum.p) (linear c.in-Sum.q) formed) (rw c.deref-in-Sum.ensures at c.whole-in-Sum.ensures.below) in
+    let left = fits (linear c.in-Sum.p) c.whole.result (left_formed (linear c.in-Sum.p) _ formed)
+    (rw c.deref.ensures at c.whole.ensures.below) in
+    let right = fits (linear c.in-Sum.q) c.whole-in-Sum.result (right_formed (linear c.in-Sum.p) (linear c.in-Sum.q) formed)
+    (rw c.deref-in-Sum.ensures at c.whole-in-Sum.ensures.below) in
     search (rules, left, right)
 
 pub product-requires : goal.product-requires
 product-requires t c =
-    let formed = subst (λ r. IsTrue (is_ok r)) (ap linear c.in-Scale.is ∙ linear_scale c.in-Scale.k c.in-Scale.p) c.requires.form in
-    fits (linear c.in-Scale.p) c.whole-in-Scale.result (left_formed (linear c.in-Scale.p) _ formed) (rw c.deref-in-Scale.ensures at c.whole-in-Scale.ensures.below)
+    let formed = subst (λ r. IsTrue (is_ok r)) (ap linear c.in-Scale.is ∙ linear_scale c.in-Scale.k c.in-Scale.p) c.requires.form
+    in
+    fits (linear c.in-Scale.p) c.whole-in-Scale.result (left_formed (linear c.in-Scale.p) _ formed)
+    (rw c.deref-in-Scale.ensures at c.whole-in-Scale.ensures.below)
 
 pub returns-in-Sum-clause-below : goal.returns-in-Sum-clause-below
 returns-in-Sum-clause-below t c =
@@ -25,6 +29,8 @@ returns-in-Sum-clause-below t c =
 
 pub returns-in-Scale-clause-below : goal.returns-in-Scale-clause-below
 returns-in-Scale-clause-below t c =
-    let inner : BelowForm c.whole-in-Scale.result (linear c.in-Scale.p) = rw c.deref-in-Scale.ensures at c.whole-in-Scale.ensures.below in
-    rw c.product.ensures (subst (BelowForm (c.in-Scale.k * c.whole-in-Scale.result)) (sym (ap linear c.in-Scale.is ∙ linear_scale c.in-Scale.k c.in-Scale.p))
+    let inner : BelowForm c.whole-in-Scale.result (linear c.in-Scale.p) =
+    rw c.deref-in-Scale.ensures at c.whole-in-Scale.ensures.below in
+    rw c.product.ensures (subst (BelowForm (c.in-Scale.k * c.whole-in-Scale.result))
+    (sym (ap linear c.in-Scale.is ∙ linear_scale c.in-Scale.k c.in-Scale.p))
     (scale_below c.in-Scale.k (linear c.in-Scale.p) c.whole-in-Scale.result inner))

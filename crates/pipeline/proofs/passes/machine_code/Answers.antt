@@ -10,7 +10,8 @@ pub returns-clause-serves : goal.returns-clause-serves
 returns-clause-serves c =
     if_ok c.emit.result _ (λ e. Serves c.args.m.now.inner c.args.c.now (map word_of e.code) e.tables e.stack)
     (λ e runs. serves c.args.m.now.inner c.args.c.now c.in_ok-flat.flat (map word_of e.code) e.tables e.stack
-    c.requires.computes c.requires.measured.args (rw c.as_slice.ensures at c.in_ok-flat.ensures.keeps) c.in_ok-flat.ensures.arguments runs)
+    c.requires.computes c.requires.measured.args (rw c.as_slice.ensures at c.in_ok-flat.ensures.keeps)
+    c.in_ok-flat.ensures.arguments runs)
     c.emit.ensures.runs
 
 pub returns-clause-counted : goal.returns-clause-counted

@@ -9,7 +9,8 @@ use Rattle.replayer.proofs.bounds.+bound.Given as goal
 abbrev pub invariant-in_order-nodes : goal.invariant-in_order-nodes
 invariant-in_order-nodes l = record {
   row : spec.in_order l.at l.more l.next l.left (map (spec.priced weights.Weights.LARGE) l.cmds) l.sum l.trips.left.now
-      ≡ spec.in_order l.fn.at l.fn.more l.fn.first l.fn.nodes (map (spec.priced weights.Weights.LARGE) l.fn.cmds) l.fn.so_far l.fn.trips.left.now;
+      ≡ spec.in_order l.fn.at l.fn.more l.fn.first l.fn.nodes (map (spec.priced weights.Weights.LARGE) l.fn.cmds) l.fn.so_far
+      l.fn.trips.left.now;
   few : l.next + sum (map stmt_size l.left) ≤ 20_000;
   small : l.more + 8 * sum (map cmd_size l.cmds) < 2 ^ 31;
   fewer : sum (map cmd_size l.cmds) ≤ sum (map cmd_size l.fn.cmds);

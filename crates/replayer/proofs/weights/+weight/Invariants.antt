@@ -6,5 +6,6 @@ use Rattle.replayer.proofs.weights.+weight.Given as goal
 
 abbrev pub invariant-weight_of_cmds-loop-c : goal.invariant-weight_of_cmds-loop-c
 invariant-weight_of_cmds-loop-c l =
-    (l.weight + sum (map (cmd_weight weights.Weights.LARGE) (drop l.c-index l.cs)) ≡ sum (map (cmd_weight weights.Weights.LARGE) l.cs))
+    (l.weight + sum (map (cmd_weight weights.Weights.LARGE) (drop l.c-index l.cs))
+    ≡ sum (map (cmd_weight weights.Weights.LARGE) l.cs))
     × (l.weight + 8 * sum (map cmd_size (drop l.c-index l.cs)) ≤ 8 * sum (map cmd_size l.cs))

@@ -4,5 +4,6 @@ use Rattle.run_setup.proofs.digits.behind.Goals as goal
 
 pub returns-in-empty : goal.returns-in-empty
 returns-in-empty c =
-    sym (behind_short c.args.prefix.now c.loop-wanted.wanted-index c.loop-wanted.left.now (omega (arith, c.in-empty.len_below)) (omega (arith, c.loop-wanted-test.true)))
+    sym (behind_short c.args.prefix.now c.loop-wanted.wanted-index c.loop-wanted.left.now (omega (arith, c.in-empty.len_below))
+    (omega (arith, c.loop-wanted-test.true)))
     ∙ c.loop-wanted.invariant

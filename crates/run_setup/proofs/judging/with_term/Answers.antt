@@ -13,7 +13,16 @@ returns-clause-value c =
     let product = rw (to_z-of_z w64 c.term_at-symbol.result.1 coefficient) at c.term_value.ensures.product in
     let one : SFits w128 c.term_value.result = search rules in
     let rest : SFits w128 c.args.rest = search rules in
-    let sum : SFits w128 (c.term_value.result +ℤ c.args.rest) = omega (arith, ints, c.term_value.ensures.low, c.term_value.ensures.high, c.requires.low, c.requires.high) in
-    let whole : c.term_value.result +ℤ c.args.rest ≡ terms_at (spec.by_symbol c.args.values.now) (drop c.args.k c.args.form.now.terms) =
-    rw (product, c.value_of.ensures, c.requires.rest) (sym (terms_step (spec.by_symbol c.args.values.now) c.args.form.now.terms c.args.k c.term_at-symbol.result c.term_at-symbol.ensures)) in
-    rw (to_z-of_z w128 c.term_value.result one, to_z-of_z w128 c.args.rest rest, to_z-of_z w128 (c.term_value.result +ℤ c.args.rest) sum) whole
+    let sum : SFits w128 (c.term_value.result +ℤ c.args.rest) =
+    omega (arith, ints, c.term_value.ensures.low, c.term_value.ensures.high, c.requires.low, c.requires.high) in
+    let whole : c.term_value.result +ℤ c.args.rest
+    ≡ terms_at (spec.by_symbol c.args.values.now) (drop c.args.k c.args.form.now.terms) =
+    rw (product, c.value_of.ensures, c.requires.rest)
+    (sym (terms_step (spec.by_symbol c.args.values.now) c.args.form.now.terms c.args.k c.term_at-symbol.result
+    c.term_at-symbol.ensures)) in
+    rw (
+      to_z-of_z w128 c.term_value.result one,
+      to_z-of_z w128 c.args.rest rest,
+      to_z-of_z w128
+          (c.term_value.result +ℤ c.args.rest) sum,
+    ) whole

@@ -14,5 +14,6 @@ new-requires-clause-ends c =
 
 pub returns-clause-bytes : goal.returns-clause-bytes
 returns-clause-bytes c =
-    let all : AllByRecursion (λ r. AreBytes r.1) c.in_ok-regions.regions = subst (AllByRecursion (λ r. AreBytes r.1)) c.as_slice.ensures c.hold_bytes.ensures in
+    let all : AllByRecursion (λ r. AreBytes r.1) c.in_ok-regions.regions =
+    subst (AllByRecursion (λ r. AreBytes r.1)) c.as_slice.ensures c.hold_bytes.ensures in
     bytes_held c.new.result c.in_ok-regions.regions all c.new.ensures

@@ -4,8 +4,11 @@ use Rattle.run_setup.proofs.reading.read_args.Goals as goal
 
 pub returns-clause-reads : goal.returns-clause-reads
 returns-clause-reads g c =
-    let count : length (drop c.args.first (map string_bytes c.args.words.now)) ≡ length c.args.kinds.now = omega (arith, count_from string_bytes c.args.words.now c.args.first, c.if-given-kinds.false) in
-    all_from_each _ c.args.first c.args.kinds.now _ c.read_each.result count (rw (texts_from string_bytes c.args.words.now c.args.first) at c.read_each.ensures.reads)
+    let count : length (drop c.args.first (map string_bytes c.args.words.now))
+    ≡ length c.args.kinds.now = omega (arith, count_from string_bytes c.args.words.now c.args.first, c.if-given-kinds.false)
+    in
+    all_from_each _ c.args.first c.args.kinds.now _ c.read_each.result count
+    (rw (texts_from string_bytes c.args.words.now c.args.first) at c.read_each.ensures.reads)
 
 pub returns-clause-cause : goal.returns-clause-cause
 returns-clause-cause g c =

@@ -45,12 +45,15 @@ module _ (R S : RattleType) (h : R.Denot → S.Denot) where
   unfolding part_of
   pointer_places a = record {
     mir_same = λ i. (pointer_to (one_value R (a.mir_same i) (λ _. ftrue) (λ _ _. nothing) gnil)).mir;
-    own_same = λ b i. (pointer_to (one_value R (a.mir_same i) (a.own_same b.value i) (a.shr_same b.value i) gnil)).own_val (with_value b tt);
-    shr_same = λ b i. (pointer_to (one_value R (a.mir_same i) (a.own_same b.value i) (a.shr_same b.value i) gnil)).shr_at (with_value b tt);
+    own_same = λ b i. (pointer_to (one_value R (a.mir_same i) (a.own_same b.value i) (a.shr_same b.value i) gnil)).own_val
+        (with_value b tt);
+    shr_same = λ b i. (pointer_to (one_value R (a.mir_same i) (a.own_same b.value i) (a.shr_same b.value i) gnil)).shr_at
+        (with_value b tt);
   }
 
   pub the_places : Alike R S h → Alike (whole.the_row R) (whole.the_row S) ((the_former this).map R.Denot S.Denot h)
-  the_places a = view_places held this view (λ X Y k u. refl) (λ X u. refl) R.Denot S.Denot h (whole.the_row R).coded (whole.the_row S).coded
+  the_places a = view_places held this view (λ X Y k u. refl) (λ X u. refl) R.Denot S.Denot h (whole.the_row R).coded
+      (whole.the_row S).coded
       (invariant R.Denot) (invariant S.Denot) (λ u p q. refl) (λ u p q. refl) (λ u e. tt) (λ u e. tt)
       (over (fields.the_row R)) (over (fields.the_row S))
       (struct_places (fields.the_type R) (fields.the_type S) ((λ b. with_value b (h b.value)), tt) _ (λ d. refl) refl

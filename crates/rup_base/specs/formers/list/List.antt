@@ -33,7 +33,8 @@ the_empty = core.[]
 abbrev pub the_items : (X : Type 0) → core.List X → core.List X
 the_items X elements = elements
 
-pub the_items_listed : (X : Type 0) (elements : core.List X) → listed _ (children (the_former this) X elements) ≡ the_items X elements
+pub the_items_listed : (X : Type 0) (elements : core.List X) → listed _ (children (the_former this) X elements)
+    ≡ the_items X elements
 the_items_listed X elements = list-listed X elements
 
 -- the one field, a `Vec` of them
@@ -42,7 +43,8 @@ held = via (vec.the_former this Global) Inside (λ X l. l.elements) (λ X v. rec
 
 module _ (R S : RattleType) (h : R.Denot → S.Denot) where
   pub the_places : Alike R S h → Alike (whole.the_row R) (whole.the_row S) ((the_former this).map R.Denot S.Denot h)
-  the_places a = view_places held (list this) view (λ X Y k u. refl) (λ X u. refl) R.Denot S.Denot h (whole.the_row R).coded (whole.the_row S).coded
+  the_places a = view_places held (list this) view (λ X Y k u. refl) (λ X u. refl) R.Denot S.Denot h (whole.the_row R).coded
+      (whole.the_row S).coded
       (invariant R.Denot) (invariant S.Denot) (λ u p q. refl) (λ u p q. refl) (λ u e. tt) (λ u e. tt)
       (over (fields.the_row R)) (over (fields.the_row S))
       (struct_places (fields.the_type R) (fields.the_type S) (vec.mapped h, tt) _ (λ d. refl) refl

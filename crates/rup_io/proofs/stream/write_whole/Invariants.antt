@@ -6,7 +6,8 @@ use Rattle.rup_io.proofs.stream.write_whole.Given as goal
 abbrev pub invariant-loop-left : goal.invariant-loop-left
 invariant-loop-left g l = record {
   rest : l.left ≡ drop (length l.bytes - length l.left) l.bytes;
-  appended : Appends (g.W.Write.contents l.initial.writer) (g.W.Write.contents l.writer) (take (length l.bytes - length l.left) l.bytes);
+  appended : Appends (g.W.Write.contents l.initial.writer) (g.W.Write.contents l.writer)
+      (take (length l.bytes - length l.left) l.bytes);
 }
 
 abbrev pub decreases-loop-left : goal.decreases-loop-left

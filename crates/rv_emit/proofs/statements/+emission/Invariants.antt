@@ -11,7 +11,8 @@ use Rattle.rv_emit.proofs.statements.+emission.Given as goal
 abbrev pub invariant-block-loop-i : goal.invariant-block-loop-i
 invariant-block-loop-i l =
     record {
-      words : Puts l.fn.code.items l.code.items (block_code (place l.plan) (offset_of l.offsets) (drop l.i l.cs) (length l.fn.code.items));
+      words : Puts l.fn.code.items l.code.items
+          (block_code (place l.plan) (offset_of l.offsets) (drop l.i l.cs) (length l.fn.code.items));
       counted : length l.code.items ≤ length l.fn.code.items + code_weight weights.Weights.LARGE (drop l.i l.cs);
       fit : all_fit (drop l.i l.cs) ≡ true;
       within : l.i ≤ length l.cs;

@@ -9,4 +9,5 @@ returns-clause-value c =
     let mem = c.args.mem.now in
     let low : bit_and c.args.value 65535 ≡ c.args.value % 65536 = grind (arith, common_steps) in
     c.set_two.ensures.value
-    ∙ ap (λ m. if c.set_two.result then m else mem) (ap (with_number mem 2 c.args.at) low ∙ with_number_low mem c.args.at c.args.value)
+    ∙ ap (λ m. if c.set_two.result then m else mem)
+    (ap (with_number mem 2 c.args.at) low ∙ with_number_low mem c.args.at c.args.value)

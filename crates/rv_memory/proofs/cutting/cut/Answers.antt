@@ -10,8 +10,13 @@ loop-at-preserved c =
     let others = c.split_at.result.1.now in
     let before = parts c.loop-at.pages.items in
     let whole : c.loop-at.left.now ≡ first ++ others = c.split_at.ensures.by_index.0 in
-    let room : at + length first + length others ≤ 2 ^ 32 = omega (arith, c.loop-at.invariant.0, c.split_at.ensures.front_len, c.split_at.ensures.back_len) in (
+    let room : at + length first + length others ≤ 2 ^ 32 =
+    omega (arith, c.loop-at.invariant.0, c.split_at.ensures.front_len, c.split_at.ensures.back_len) in (
       room,
       λ rest.
-          recut_then _ _ _ (c.loop-at.invariant.1 rest) (recut_then _ _ _ (recut_itself _ _ (ap (λ bs. before ++ (at, bs) ∷ rest) whole)) (recut_then _ _ _ (recut_two before rest at first others) (recut_itself _ _ (pushed before (parts c.add.new.pages.items) ((at + length first, others) ∷ rest) (at, first) c.in_ok-add.ensures)))),
+          recut_then _ _ _ (c.loop-at.invariant.1 rest)
+          (recut_then _ _ _ (recut_itself _ _ (ap (λ bs. before ++ (at, bs) ∷ rest) whole))
+          (recut_then _ _ _ (recut_two before rest at first others)
+          (recut_itself _ _ (pushed before (parts c.add.new.pages.items) ((at + length first, others) ∷ rest) (at, first)
+          c.in_ok-add.ensures)))),
     )

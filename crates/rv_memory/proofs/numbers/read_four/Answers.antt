@@ -10,7 +10,8 @@ returns-in_err-i c =
 
 pub overflow_sub-k : goal.overflow_sub-k
 overflow_sub-k c =
-    rw c.index-pages-i.is (found_low c.args.at c.args.pages.now c.in_ok-i.i c.index-pages-i.result (sym c.find.ensures ∙ c.in_ok-i.was))
+    rw c.index-pages-i.is (found_low c.args.at c.args.pages.now c.in_ok-i.i c.index-pages-i.result
+    (sym c.find.ensures ∙ c.in_ok-i.was))
 
 pub overflow_sub-len : goal.overflow_sub-len
 overflow_sub-len c =
@@ -22,4 +23,6 @@ pub returns : goal.returns
 returns c =
     let room = c.if-len-k-lt4.false in
     c.four_in.ensures ∙ ap (λ bytes. number_in bytes 4 (c.args.at - c.index-pages-i.result.start)) c.deref.ensures.value
-    ∙ sym (number_found 4 c.args.at c.args.pages.now c.in_ok-i.i c.index-pages-i.result c.requires.apart (sym c.find.ensures ∙ c.in_ok-i.was) c.index-pages-i.is (omega (arith, room, c.len.ensures, c.index-pages-i.result.bytes.ok.0)))
+    ∙ sym (number_found 4 c.args.at c.args.pages.now c.in_ok-i.i c.index-pages-i.result c.requires.apart
+    (sym c.find.ensures ∙ c.in_ok-i.was) c.index-pages-i.is
+    (omega (arith, room, c.len.ensures, c.index-pages-i.result.bytes.ok.0)))

@@ -6,6 +6,10 @@ use Rattle.rv_memory.proofs.numbers.scatter_two.Goals as goal
 
 pub returns-clause-value : goal.returns-clause-value
 returns-clause-value c =
-    let low = one_set (contents c.args.pages.now) (contents c.write.new.pages) 1 c.args.at (c.args.at + 1) c.args.value _ c.write.result (ap is_some (sym c.gather_two.ensures) ∙ c.if-is_none.ensures) c.write.ensures.found.1 c.write.ensures.value refl (grind (arith, common_steps)) in
-    let high = one_set (contents c.write.new.pages) (contents c.write-2.new.pages) 0 (c.args.at + 1) (c.args.at + 2) (c.args.value / 256) _ c.write-2.result low.there c.write-2.ensures.found.1 c.write-2.ensures.value (omega arith) (grind (arith, common_steps)) in
+    let low = one_set (contents c.args.pages.now) (contents c.write.new.pages) 1 c.args.at (c.args.at + 1) c.args.value _
+    c.write.result (ap is_some (sym c.gather_two.ensures) ∙ c.if-is_none.ensures) c.write.ensures.found.1
+    c.write.ensures.value refl (grind (arith, common_steps)) in
+    let high = one_set (contents c.write.new.pages) (contents c.write-2.new.pages) 0 (c.args.at + 1) (c.args.at + 2)
+    (c.args.value / 256) _ c.write-2.result low.there c.write-2.ensures.found.1 c.write-2.ensures.value (omega arith)
+    (grind (arith, common_steps)) in
     sym (low.rest ∙ high.rest ∙ none_left (contents c.write-2.new.pages) _ _)

@@ -1,6 +1,7 @@
 use Rattle.std.proofs.Common.{◌+◌, ◌-◌, ◌≤◌, ◌∙◌, length, is_some, get_or, sym, ap, arith}
 use Rattle.rv_memory.specs.Numbers.{with_number_in}
-use Rattle.rv_memory.proofs.Found.{found_low, found_high, number_none, itself, number_found, number_in_some, with_number_found, apart_written}
+use Rattle.rv_memory.proofs.Found.{found_low, found_high, number_none, itself, number_found, number_in_some, with_number_found}
+use Rattle.rv_memory.proofs.Found.{apart_written}
 use Rattle.rv_memory.proofs.numbers.write_two.Goals as goal
 
 pub returns-in_default-clause-found : goal.returns-in_default-clause-found
@@ -23,7 +24,8 @@ returns-clause-found c =
     let r = get_or rs i c.index-pages-i.result in
     let room : c.args.at - r.start + 2 ≤ length r.bytes.items =
     omega (arith, c.if-len-k-lt2.false, c.len.ensures, r.bytes.ok.0) in
-    sym (ap is_some (number_found 2 c.args.at rs i r c.requires.apart e (itself c.args.at rs i c.index-pages-i.result e) room) ∙ number_in_some 2 r.bytes.items (c.args.at - r.start) room)
+    sym (ap is_some (number_found 2 c.args.at rs i r c.requires.apart e (itself c.args.at rs i c.index-pages-i.result e) room)
+    ∙ number_in_some 2 r.bytes.items (c.args.at - r.start) room)
 
 pub returns-clause-value : goal.returns-clause-value
 returns-clause-value c =
@@ -33,7 +35,9 @@ returns-clause-value c =
     let r = get_or rs i c.index-pages-i.result in
     let room : c.args.at - r.start + 2 ≤ length r.bytes.items =
     omega (arith, c.if-len-k-lt2.false, c.len.ensures, r.bytes.ok.0) in
-    with_number_found 2 c.args.at c.args.value rs i r c.index-pages-i-2.result c.put_two.new.bytes c.requires.apart e (itself c.args.at rs i c.index-pages-i.result e) room (c.put_two.ensures ∙ ap (λ bytes. with_number_in bytes 2 (c.args.at - r.start) c.args.value) c.deref_mut.ensures.value)
+    with_number_found 2 c.args.at c.args.value rs i r c.index-pages-i-2.result c.put_two.new.bytes c.requires.apart e
+    (itself c.args.at rs i c.index-pages-i.result e) room
+    (c.put_two.ensures ∙ ap (λ bytes. with_number_in bytes 2 (c.args.at - r.start) c.args.value) c.deref_mut.ensures.value)
 
 pub returns-clause-apart : goal.returns-clause-apart
 returns-clause-apart c =
@@ -41,4 +45,5 @@ returns-clause-apart c =
     let i = c.in-Some.i in
     let e = sym c.find.ensures ∙ c.in-Some.is in
     let k = c.args.at - (get_or rs i c.index-pages-i.result).start in
-    apart_written 2 c.args.at c.args.value k rs i c.index-pages-i-2.result c.put_two.new.bytes e (c.put_two.ensures ∙ ap (λ bytes. with_number_in bytes 2 k c.args.value) c.deref_mut.ensures.value) c.requires.apart
+    apart_written 2 c.args.at c.args.value k rs i c.index-pages-i-2.result c.put_two.new.bytes e
+    (c.put_two.ensures ∙ ap (λ bytes. with_number_in bytes 2 k c.args.value) c.deref_mut.ensures.value) c.requires.apart

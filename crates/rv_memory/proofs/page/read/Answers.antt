@@ -7,12 +7,15 @@ returns-in_err-i c = c.from_residual.ensures ∙ sym (read_none c.args.at c.args
 
 pub overflow_sub-at : goal.overflow_sub-at
 overflow_sub-at c =
-    rw c.index-pages-i.is (found_low c.args.at c.args.pages.now c.in_ok-i.i c.index-pages-i.result (sym c.find.ensures ∙ c.in_ok-i.was))
+    rw c.index-pages-i.is (found_low c.args.at c.args.pages.now c.in_ok-i.i c.index-pages-i.result
+    (sym c.find.ensures ∙ c.in_ok-i.was))
 
 pub index-requires : goal.index-requires
 index-requires c =
-    rw c.index-pages-i.is (found_high c.args.at c.args.pages.now c.in_ok-i.i c.index-pages-i.result (sym c.find.ensures ∙ c.in_ok-i.was))
+    rw c.index-pages-i.is (found_high c.args.at c.args.pages.now c.in_ok-i.i c.index-pages-i.result
+    (sym c.find.ensures ∙ c.in_ok-i.was))
 
 pub returns : goal.returns
 returns c =
-    sym (read_at c.args.at c.args.pages.now c.in_ok-i.i c.index-pages-i.result c.index.result.now (sym c.find.ensures ∙ c.in_ok-i.was) c.index-pages-i.is c.index.ensures)
+    sym (read_at c.args.at c.args.pages.now c.in_ok-i.i c.index-pages-i.result c.index.result.now
+    (sym c.find.ensures ∙ c.in_ok-i.was) c.index-pages-i.is c.index.ensures)

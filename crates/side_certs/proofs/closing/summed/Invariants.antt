@@ -5,7 +5,8 @@ use Rattle.side_certs.proofs.closing.summed.Given as goal
 -- what is left completes the sum, and has room in 128 bits
 abbrev pub invariant-entries : goal.invariant-entries
 invariant-entries l = record {
-  sum : l.sum +ℤ certificate.summed (certificate.number_at l.place) l.facts l.tops l.left ≡ certificate.summed (certificate.number_at l.place) l.facts l.tops l.entries;
+  sum : l.sum +ℤ certificate.summed (certificate.number_at l.place) l.facts l.tops l.left
+      ≡ certificate.summed (certificate.number_at l.place) l.facts l.tops l.entries;
   above : pos (2 ^ 95 * length l.left) ≤ℤ (l.sum +ℤ pos (2 ^ 100));
   below : (l.sum +ℤ pos (2 ^ 95 * length l.left)) ≤ℤ pos (2 ^ 100);
 }

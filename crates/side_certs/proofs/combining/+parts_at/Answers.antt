@@ -12,5 +12,20 @@ returns-in-len1-up-clause-sum t c =
     let times_fit : SFits w64 part.times = search rules in
     let number_fits : SFits w128 c.number_at.result = search rules in
     let few = c.requires in
-    let product = rw (to_z-of_z w64 part.times times_fit, to_z-of_z w128 c.number_at.result number_fits, c.number_at.ensures.number) at c.product.ensures.product in
-    omega (arith, ints, whole, product, few, c.product.ensures.near.0, c.product.ensures.near.1, c.parts_at.ensures.sum, c.parts_at.ensures.near.0, c.parts_at.ensures.near.1)
+    let product = rw (
+      to_z-of_z w64 part.times times_fit,
+      to_z-of_z w128 c.number_at.result number_fits,
+      c.number_at.ensures.number,
+    ) at c.product.ensures.product in
+    omega (
+      arith,
+      ints,
+      whole,
+      product,
+      few,
+      c.product.ensures.near.0,
+      c.product.ensures.near.1,
+      c.parts_at.ensures.sum,
+      c.parts_at.ensures.near.0,
+      c.parts_at.ensures.near.1,
+    )

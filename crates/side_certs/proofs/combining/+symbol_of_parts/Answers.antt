@@ -13,7 +13,9 @@ returns-in-len1-up-clause-next t c =
     let fits : SFits w64 c.args.constant = search rules in
     let whole = split_first c.args.parts.now part c.in-len1-up.len_at_least c.part-item.is in
     subst (λ (ps : List Part). spec.IsNext (spec.sum c.args.constant ps) c.args.least c.lesser.result) (sym whole)
-    (rw (c.lesser.ensures) (next_plus _ _ c.args.least c.symbol_from.result c.symbol_of_parts.result (next_times part.times part.form.now c.args.least c.symbol_from.result c.symbol_from.ensures.next) (rw (to_z-of_z w64 c.args.constant fits) at c.symbol_of_parts.ensures.next)))
+    (rw (c.lesser.ensures) (next_plus _ _ c.args.least c.symbol_from.result c.symbol_of_parts.result
+    (next_times part.times part.form.now c.args.least c.symbol_from.result c.symbol_from.ensures.next)
+    (rw (to_z-of_z w64 c.args.constant fits) at c.symbol_of_parts.ensures.next)))
 
 pub returns-in-len1-up-clause-rising : goal.returns-in-len1-up-clause-rising
 returns-in-len1-up-clause-rising t c =
@@ -21,4 +23,5 @@ returns-in-len1-up-clause-rising t c =
     let fits : SFits w64 c.args.constant = search rules in
     let whole = split_first c.args.parts.now part c.in-len1-up.len_at_least c.part-item.is in
     subst (λ (ps : List Part). rises_from 0 (spec.sum c.args.constant ps).terms ≡ true) (sym whole)
-    (sum_rises part.form.now.terms _ part.times c.symbol_from.ensures.rising (rw (to_z-of_z w64 c.args.constant fits) at c.symbol_of_parts.ensures.rising))
+    (sum_rises part.form.now.terms _ part.times c.symbol_from.ensures.rising
+    (rw (to_z-of_z w64 c.args.constant fits) at c.symbol_of_parts.ensures.rising))

@@ -12,5 +12,8 @@ returns-then-t-u-2 c =
     let sum_fits : SFits w128 c.total.result = search rules in
     let t_is = to_z-of_z w64 (slice_index_or c.args.left.now 0 (0, pos 0)).1 t_fits in
     let u_is = to_z-of_z w64 (slice_index_or c.args.right.now 0 (0, pos 0)).1 u_fits in
-    let sum : c.total.result ≡ (slice_index_or c.args.left.now 0 (0, pos 0)).1 +ℤ (slice_index_or c.args.right.now 0 (0, pos 0)).1 = rw (t_is, u_is) at c.total.ensures in
-    rw (to_z-of_z w128 c.total.result sum_fits) (equal_symbols c.args.left.now c.args.right.now c.total.result (omega (arith, ltb-false)) (omega (arith, ltb-false)) c.if-t-u-2.true sum)
+    let sum : c.total.result ≡ (slice_index_or c.args.left.now 0 (0, pos 0)).1 +ℤ
+    (slice_index_or c.args.right.now 0 (0, pos 0)).1 = rw (t_is, u_is) at c.total.ensures in
+    rw (to_z-of_z w128 c.total.result sum_fits)
+    (equal_symbols c.args.left.now c.args.right.now c.total.result (omega (arith, ltb-false)) (omega (arith, ltb-false))
+    c.if-t-u-2.true sum)

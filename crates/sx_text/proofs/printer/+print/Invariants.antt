@@ -5,4 +5,5 @@ use Rattle.sx_text.proofs.printer.+print.Given as goal
 
 abbrev pub invariant-print_spaced-loop-form : goal.invariant-print_spaced-loop-form
 invariant-print_spaced-loop-form l =
-    l.out ++ texts.behind_spaces (map spelling.text (drop l.form-index l.rest)) ≡ l.fn.out ++ spelling.spaced (map spelling.text l.forms)
+    l.out ++ texts.behind_spaces (map spelling.text (drop l.form-index l.rest))
+    ≡ l.fn.out ++ spelling.spaced (map spelling.text l.forms)

@@ -2,7 +2,8 @@
 use Rattle.std.proofs.Common.{◌≡◌, sym, ◌∙◌, ap, arith, ℕ, suc, ◌+◌, ◌-◌, nat_eq, true, false, [], length, take, drop, reverse}
 use Rattle.std.proofs.lemmas.Grind.{common_steps}
 use Rattle.sx_text.specs.Forms.{deepest}
-use Rattle.sx_text.proofs.Classes.{rest_of-Space, fault-Space, rest_of-Note, fault-Note, fault-Open, fault-Deep, fault-Close, fault-Extra, fault-Word, fault-Bad, fault-Unclosed}
+use Rattle.sx_text.proofs.Classes.{rest_of-Space, fault-Space, rest_of-Note, fault-Note, fault-Open, fault-Deep, fault-Close}
+use Rattle.sx_text.proofs.Classes.{fault-Extra, fault-Word, fault-Bad, fault-Unclosed}
 use Rattle.sx_text.proofs.Plugged.{plugged}
 use Rattle.sx_text.proofs.Turns.{refuses, finishes, opens, closes, words}
 use Rattle.sx_text.proofs.reader.read_forms.Goals as goal
@@ -15,7 +16,8 @@ loop-at-preserved-in-Space c =
     record {
       within = omega arith;
       faults = sym (fault-Space bytes at c.loop-at-test.true _ byte) ∙ c.loop-at.invariant.faults;
-      means = ap (plugged (reverse c.loop-at.frames.items) c.loop-at.forms) (sym (rest_of-Space bytes at c.loop-at-test.true byte)) ∙ c.loop-at.invariant.means;
+      means = ap (plugged (reverse c.loop-at.frames.items) c.loop-at.forms)
+          (sym (rest_of-Space bytes at c.loop-at-test.true byte)) ∙ c.loop-at.invariant.means;
     }
 
 pub loop-at-preserved-in-Note : goal.loop-at-preserved-in-Note
@@ -27,8 +29,10 @@ loop-at-preserved-in-Note c =
     let grouped : at + (1 + n) ≡ at + 1 + n = omega arith in
     rw grouped (record {
       within = omega arith;
-      faults = sym (fault-Note bytes at c.loop-at-test.true n _ c.line_length.ensures.count (omega arith) byte) ∙ c.loop-at.invariant.faults;
-      means = ap (plugged (reverse c.loop-at.frames.items) c.loop-at.forms) (sym (rest_of-Note bytes at c.loop-at-test.true n c.line_length.ensures.count byte)) ∙ c.loop-at.invariant.means;
+      faults = sym (fault-Note bytes at c.loop-at-test.true n _ c.line_length.ensures.count (omega arith) byte)
+          ∙ c.loop-at.invariant.faults;
+      means = ap (plugged (reverse c.loop-at.frames.items) c.loop-at.forms)
+          (sym (rest_of-Note bytes at c.loop-at-test.true n c.line_length.ensures.count byte)) ∙ c.loop-at.invariant.means;
     })
 
 pub loop-at-preserved-in-Open : goal.loop-at-preserved-in-Open
@@ -37,11 +41,13 @@ loop-at-preserved-in-Open c =
     let at = c.loop-at.at in
     let byte = sym c.class_of.ensures ∙ c.in-Open.is in
     let shallow : nat_eq (length c.loop-at.frames.items) deepest ≡ false = grind (arith, common_steps) in
-    let deeper : length c.push.new.self.items ≡ length c.loop-at.frames.items + 1 = grind (arith, common_steps, c.in_ok-push-in-Open.ensures.items) in
+    let deeper : length c.push.new.self.items ≡ length c.loop-at.frames.items + 1 =
+    grind (arith, common_steps, c.in_ok-push-in-Open.ensures.items) in
     record {
       within = omega arith;
       faults = rw deeper (sym (fault-Open bytes at c.loop-at-test.true _ shallow byte) ∙ c.loop-at.invariant.faults);
-      means = opens bytes at c.loop-at-test.true _ _ _ _ byte c.in_ok-push-in-Open.ensures.items c.new-forms-in-Open.ensures c.loop-at.invariant.means;
+      means = opens bytes at c.loop-at-test.true _ _ _ _ byte c.in_ok-push-in-Open.ensures.items c.new-forms-in-Open.ensures
+          c.loop-at.invariant.means;
     }
 
 pub returns-then-len-eq-DEEPEST : goal.returns-then-len-eq-DEEPEST
@@ -57,12 +63,14 @@ loop-at-preserved-in_ok-push-in-Close c =
     let bytes = c.args.bytes.now in
     let at = c.loop-at.at in
     let byte = sym c.class_of.ensures ∙ c.in-Close.is in
-    let deeper : length c.loop-at.frames.items ≡ suc (length c.pop.new.self.items) = grind (arith, common_steps, c.in-Some.ensures.items) in
+    let deeper : length c.loop-at.frames.items ≡ suc (length c.pop.new.self.items) =
+    grind (arith, common_steps, c.in-Some.ensures.items) in
     let faults = rw deeper at c.loop-at.invariant.faults in
     record {
       within = omega arith;
       faults = sym (fault-Close bytes at c.loop-at-test.true _ byte) ∙ faults;
-      means = closes bytes at c.loop-at-test.true _ _ _ _ _ byte c.in-Some.ensures.items c.in_ok-push-in-Close.ensures.appended c.loop-at.invariant.means;
+      means = closes bytes at c.loop-at-test.true _ _ _ _ _ byte c.in-Some.ensures.items c.in_ok-push-in-Close.ensures.appended
+          c.loop-at.invariant.means;
     }
 
 pub returns-in_default : goal.returns-in_default
@@ -84,8 +92,10 @@ loop-at-preserved c =
     let long : at + 1 + n - at ≡ n + 1 = omega arith in
     record {
       within = omega arith;
-      faults = sym (fault-Word bytes at c.loop-at-test.true n _ c.word_length.ensures.count c.word_length.ensures.within byte) ∙ c.loop-at.invariant.faults;
-      means = words bytes at c.loop-at-test.true n (reverse c.loop-at.frames.items) _ _ _ byte c.word_length.ensures.count c.word_length.ensures.within
+      faults = sym (fault-Word bytes at c.loop-at-test.true n _ c.word_length.ensures.count c.word_length.ensures.within byte)
+          ∙ c.loop-at.invariant.faults;
+      means = words bytes at c.loop-at-test.true n (reverse c.loop-at.frames.items) _ _ _ byte c.word_length.ensures.count
+          c.word_length.ensures.within
           (text ∙ ap (λ (k : ℕ). take k (drop at bytes)) long) c.in_ok-push-in-Word.ensures.appended c.loop-at.invariant.means;
     }
 
@@ -100,7 +110,8 @@ pub returns-then-not-is_empty : goal.returns-then-not-is_empty
 returns-then-not-is_empty c =
     let bytes = c.args.bytes.now in
     let at = c.loop-at.at in
-    let inside : length c.loop-at.frames.items ≡ suc (length c.loop-at.frames.items - 1) = grind (arith, common_steps, c.if-not-is_empty.ensures) in
+    let inside : length c.loop-at.frames.items ≡ suc (length c.loop-at.frames.items - 1) =
+    grind (arith, common_steps, c.if-not-is_empty.ensures) in
     let faults = rw inside at c.loop-at.invariant.faults in
     refuses _ _ _ at _ bytes c.refused-then-not-is_empty.ensures faults (fault-Unclosed bytes _ at c.loop-at-test.false)
 

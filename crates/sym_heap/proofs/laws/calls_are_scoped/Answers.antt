@@ -1,4 +1,5 @@
-use Rattle.sym_heap.proofs.laws.Scopes.{fresh_scoped, fact_scoped, reserved_scoped, back_scoped, bound_scoped, moved_scoped, written_scoped, dropped_scoped}
+use Rattle.sym_heap.proofs.laws.Scopes.{fresh_scoped, fact_scoped, reserved_scoped, back_scoped, bound_scoped, moved_scoped}
+use Rattle.sym_heap.proofs.laws.Scopes.{written_scoped, dropped_scoped}
 use Rattle.sym_heap.proofs.laws.calls_are_scoped.Goals as goal
 
 pub returns : goal.returns

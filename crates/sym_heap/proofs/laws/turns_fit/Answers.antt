@@ -2,4 +2,11 @@ use Rattle.sym_heap.proofs.laws.Turns.{first_turn, turn_counts, block_starts, tu
 use Rattle.sym_heap.proofs.laws.turns_fit.Goals as goal
 
 pub returns : goal.returns
-returns c = record { first = first_turn; counts = turn_counts; starts = block_starts; ends = turn_ends; again = turn_again; leaves = loop_leaves }
+returns c = record {
+  first = first_turn;
+  counts = turn_counts;
+  starts = block_starts;
+  ends = turn_ends;
+  again = turn_again;
+  leaves = loop_leaves;
+}

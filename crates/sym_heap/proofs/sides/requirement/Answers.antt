@@ -11,8 +11,10 @@ small None less n is = absurd (let bad : ◌≡◌ {A = Option ℕ} None (Some n
 
 pub unreachable-requires : goal.unreachable-requires
 unreachable-requires c =
-    let low = small_constant c.args.r.now.low c.literal.result c.literal.ensures.literal (small c.literal.result c.literal.ensures.word) in
-    let high = small_constant c.args.r.now.high c.literal-2.result c.literal-2.ensures.literal (small c.literal-2.result c.literal-2.ensures.word) in
+    let low = small_constant c.args.r.now.low c.literal.result c.literal.ensures.literal
+    (small c.literal.result c.literal.ensures.word) in
+    let high = small_constant c.args.r.now.high c.literal-2.result c.literal-2.ensures.literal
+    (small c.literal-2.result c.literal-2.ensures.word) in
     let form : LinearForm = spec.difference (spec.form_in c.args.scalars.now) c.args.r.now in
     let keeps : within form ≡ Some form = rw (c.requires.keeps low high) refl in
     let none : None ≡ within form = sym c.in-None.is ∙ c.difference.ensures in

@@ -3,4 +3,5 @@ use Rattle.expr_rules.proofs.Folded.{shift_row}
 use Rattle.expr_rules.proofs.rules.shift.after.Goals as goal
 
 pub returns : goal.returns
-returns c = shift_row c.args.certs.now c.args.at c.args.p c.args.q c.args.ctx.now c.multiple.result c.args.ctx.now c.in-Some.factor (to_z w64 (of_z w64 c.from.result)) (search rules) (search rules) c.multiple.ensures
+returns c = shift_row c.args.certs.now c.args.at c.args.p c.args.q c.args.ctx.now c.multiple.result c.args.ctx.now
+    c.in-Some.factor (to_z w64 (of_z w64 c.from.result)) (search rules) (search rules) c.multiple.ensures

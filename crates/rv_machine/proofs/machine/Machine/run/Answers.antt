@@ -8,4 +8,5 @@ loop-steps-init c = reached_start c.args.stop (state_of c.args.self.now)
 
 pub loop-steps-preserved : goal.loop-steps-preserved
 loop-steps-preserved c =
-    reached_more c.args.stop c.loop-steps.steps (state_of c.args.self.now) (state_of c.loop-steps.self) (state_of c.step.new.self) c.loop-steps.invariant c.if-self-stop.false (sym c.in_default.ensures.made)
+    reached_more c.args.stop c.loop-steps.steps (state_of c.args.self.now) (state_of c.loop-steps.self) (state_of c.step.new.self)
+    c.loop-steps.invariant c.if-self-stop.false (sym c.in_default.ensures.made)

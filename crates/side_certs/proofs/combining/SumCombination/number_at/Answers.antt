@@ -10,4 +10,15 @@ returns c =
     let fits : SFits w64 c.args.self.now.constant = search rules in
     let few = c.requires in
     let constant = rw (to_z-of_z w64 c.args.self.now.constant fits) at c.number_of_constant.ensures.number in
-    omega (arith, ints, whole, few, constant, c.number_of_constant.ensures.near.0, c.number_of_constant.ensures.near.1, c.parts_at.ensures.sum, c.parts_at.ensures.near.0, c.parts_at.ensures.near.1)
+    omega (
+      arith,
+      ints,
+      whole,
+      few,
+      constant,
+      c.number_of_constant.ensures.near.0,
+      c.number_of_constant.ensures.near.1,
+      c.parts_at.ensures.sum,
+      c.parts_at.ensures.near.0,
+      c.parts_at.ensures.near.1,
+    )

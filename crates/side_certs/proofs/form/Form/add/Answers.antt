@@ -10,14 +10,16 @@ returns-then-not-push c =
     let n = c.in-Some.next in
     let fits : SFits w128 n.coefficient = search rules in
     let whole = ap (λ (ts : List (ℕ × ℤ)). c.terms.sum.terms ++ ts) (sym c.in-Some.ensures.0) ∙ c.terms.invariant.1 in
-    sym (no_room (plus c.args.self.now c.args.other.now) c.terms.sum n.symbol n.coefficient _ (merge n.left.now n.right.now) c.if-not-push.ensures.room (to_z-of_z w128 n.coefficient fits) whole)
+    sym (no_room (plus c.args.self.now c.args.other.now) c.terms.sum n.symbol n.coefficient _ (merge n.left.now n.right.now)
+    c.if-not-push.ensures.room (to_z-of_z w128 n.coefficient fits) whole)
 
 pub terms-preserved : goal.terms-preserved
 terms-preserved c =
     let n = c.in-Some.next in
     let fits : SFits w128 n.coefficient = search rules in
     let whole = ap (λ (ts : List (ℕ × ℤ)). c.terms.sum.terms ++ ts) (sym c.in-Some.ensures.0) ∙ c.terms.invariant.1 in
-    put_keeps c.push.new.self c.terms.sum n.symbol n.coefficient _ (merge n.left.now n.right.now) _ _ c.if-not-push.ensures.put (to_z-of_z w128 n.coefficient fits) c.terms.invariant.0 whole
+    put_keeps c.push.new.self c.terms.sum n.symbol n.coefficient _ (merge n.left.now n.right.now) _ _ c.if-not-push.ensures.put
+    (to_z-of_z w128 n.coefficient fits) c.terms.invariant.0 whole
 
 pub push-requires : goal.push-requires
 push-requires c =
@@ -26,4 +28,6 @@ push-requires c =
     let whole = ap (λ (ts : List (ℕ × ℤ)). c.terms.sum.terms ++ ts) (sym c.in-Some.ensures.0) ∙ c.terms.invariant.1 in
     let left : rises_from 0 c.args.self.now.terms ≡ true = rw (← c.self.view_is) c.self.invariant.2 in
     let right : rises_from 0 c.args.other.now.terms ≡ true = rw (← c.other.view_is) c.other.invariant.2 in
-    next_rises c.terms.sum.terms n.symbol n.coefficient _ (merge n.left.now n.right.now) (merge c.args.self.now.terms c.args.other.now.terms) (merge_rises c.args.self.now.terms c.args.other.now.terms 0 left right) (to_z-of_z w128 n.coefficient fits) whole
+    next_rises c.terms.sum.terms n.symbol n.coefficient _ (merge n.left.now n.right.now)
+    (merge c.args.self.now.terms c.args.other.now.terms)
+    (merge_rises c.args.self.now.terms c.args.other.now.terms 0 left right) (to_z-of_z w128 n.coefficient fits) whole

@@ -8,4 +8,5 @@ pub returns-then-term-s-clause-coefficient : goal.returns-then-term-s-clause-coe
 returns-then-term-s-clause-coefficient c =
     let fits : SFits w64 (slice_index_or c.terms.left.now 0 (0, pos 0)).1 = search rules in
     to_z-of_z w64 (slice_index_or c.terms.left.now 0 (0, pos 0)).1 fits
-    ∙ coefficient_found c.args.s c.terms.left.now c.in-len1-up.len_at_least c.terms.invariant.rising c.if-term-s.true ∙ c.terms.invariant.found
+    ∙ coefficient_found c.args.s c.terms.left.now c.in-len1-up.len_at_least c.terms.invariant.rising c.if-term-s.true
+    ∙ c.terms.invariant.found

@@ -7,4 +7,5 @@ pub returns-in_err-scale : goal.returns-in_err-scale
 returns-in_err-scale c = not_none _ _ c.in_err-scale.ensures (negated_within c.args.other.now c.keeps_limits.ensures)
 
 pub returns : goal.returns
-returns c = c.add.ensures ∙ ap (λ g. within (plus c.args.self.now g)) (some_is _ _ _ c.in_ok-scale.ensures (negated_within c.args.other.now c.keeps_limits.ensures))
+returns c = c.add.ensures ∙ ap (λ g. within (plus c.args.self.now g))
+    (some_is _ _ _ c.in_ok-scale.ensures (negated_within c.args.other.now c.keeps_limits.ensures))

@@ -5,20 +5,24 @@ use Rattle.sym_heap.proofs.context.Ctx.drop_clause.Goals as goal
 
 pub remove-requires : goal.remove-requires
 remove-requires c =
-    let at : There (spec.is_clause c.args.a.now) c.self.inside.clauses.items c.in-Some.i = there _ _ _ (grind (rules, c.place_of_clause.ensures, c.in-Some.is, c.deref.ensures.value)) in
+    let at : There (spec.is_clause c.args.a.now) c.self.inside.clauses.items c.in-Some.i =
+    there _ _ _ (grind (rules, c.place_of_clause.ensures, c.in-Some.is, c.deref.ensures.value)) in
     search (rules, at.inside)
 
 pub returns-in-None-clause-found : goal.returns-in-None-clause-found
 returns-in-None-clause-found c =
-    let at : Nowhere (spec.is_clause c.args.a.now) c.self.inside.clauses.items = nowhere _ _ (grind (rules, c.place_of_clause.ensures, c.in-None.is, c.deref.ensures.value)) in
+    let at : Nowhere (spec.is_clause c.args.a.now) c.self.inside.clauses.items =
+    nowhere _ _ (grind (rules, c.place_of_clause.ensures, c.in-None.is, c.deref.ensures.value)) in
     rw (← c.self.view_is, at.found) refl
 
 pub returns-in-Some-clause-found : goal.returns-in-Some-clause-found
 returns-in-Some-clause-found c =
-    let at : There (spec.is_clause c.args.a.now) c.self.inside.clauses.items c.in-Some.i = there _ _ _ (grind (rules, c.place_of_clause.ensures, c.in-Some.is, c.deref.ensures.value)) in
+    let at : There (spec.is_clause c.args.a.now) c.self.inside.clauses.items c.in-Some.i =
+    there _ _ _ (grind (rules, c.place_of_clause.ensures, c.in-Some.is, c.deref.ensures.value)) in
     rw (← c.self.view_is, at.found c.remove.result) refl
 
 pub returns-in-Some-clause-after : goal.returns-in-Some-clause-after
 returns-in-Some-clause-after c =
-    let at : There (spec.is_clause c.args.a.now) c.self.inside.clauses.items c.in-Some.i = there _ _ _ (grind (rules, c.place_of_clause.ensures, c.in-Some.is, c.deref.ensures.value)) in
+    let at : There (spec.is_clause c.args.a.now) c.self.inside.clauses.items c.in-Some.i =
+    there _ _ _ (grind (rules, c.place_of_clause.ensures, c.in-Some.is, c.deref.ensures.value)) in
     rw (← c.self.view_is, at.taken_out, c.remove.ensures.items) refl

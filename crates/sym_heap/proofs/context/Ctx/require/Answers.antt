@@ -14,13 +14,16 @@ loop-requirement-preserved c =
     let r = c.requirement-item.result in
     let form = form_in c.args.self.now.scalars in
     let at : drop i rs ≡ r ∷ drop (i + 1) rs = grind (arith, common_steps, c.requirement-item.is, c.loop-requirement-test.true) in
-    let formed : AllFormed form (r ∷ drop (i + 1) rs) = subst (λ (l : List Le). AllFormed form l) at c.loop-requirement.invariant.formed in
+    let formed : AllFormed form (r ∷ drop (i + 1) rs) =
+    subst (λ (l : List Le). AllFormed form l) at c.loop-requirement.invariant.formed in
     let same : form_in c.scalars.result.now ≡ form = ap form_in (c.scalars.ensures ∙ c.loop-requirement.invariant.scalars) in
     let made : c.requirement-form.result ≡ difference form r = c.requirement-form.ensures ∙ ap (λ F. difference F r) same in
-    let put : c.put_fact.new.self ≡ with_fact (difference form r) c.loop-requirement.self = c.in_ok-put_fact.ensures ∙ ap (λ f. with_fact f c.loop-requirement.self) made in
+    let put : c.put_fact.new.self ≡ with_fact (difference form r) c.loop-requirement.self =
+    c.in_ok-put_fact.ensures ∙ ap (λ f. with_fact f c.loop-requirement.self) made in
     record {
       formed = formed.1;
       scalars = rw put c.loop-requirement.invariant.scalars;
       rest = rw put (one_before (difference form r) (map (difference form) (drop (i + 1) rs)) c.loop-requirement.self
-          ∙ ap (λ (l : List Le). with_facts (map (difference form) l) c.loop-requirement.self) (sym at) ∙ c.loop-requirement.invariant.rest);
+          ∙ ap (λ (l : List Le). with_facts (map (difference form) l) c.loop-requirement.self) (sym at)
+          ∙ c.loop-requirement.invariant.rest);
     }

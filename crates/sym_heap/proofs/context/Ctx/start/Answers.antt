@@ -11,9 +11,11 @@ declare-requires c = let few : registers c.args.m.now.params ≤ 8 = few_registe
 pub count_entries-requires : goal.count_entries-requires
 count_entries-requires c =
     let few : registers c.args.m.now.params ≤ 8 = few_registers c.args.m.now c.requires in
-    let all : next_local (with_params 0 c.args.m.now.params empty) ≡ next_local empty + registers c.args.m.now.params = after_params 0 c.args.m.now.params empty in
+    let all : next_local (with_params 0 c.args.m.now.params empty) ≡ next_local empty + registers c.args.m.now.params =
+    after_params 0 c.args.m.now.params empty in
     rw (c.in_ok-declare.ensures, c.as_slice.ensures, c.empty-context.ensures) (omega (arith, few, all))
 
 pub require-requires : goal.require-requires
 require-requires c =
-    rw (c.count_entries.ensures, c.in_ok-declare.ensures, c.as_slice.ensures, c.empty-context.ensures, c.as_slice-2.ensures) (requirements_formed c.args.m.now c.requires)
+    rw (c.count_entries.ensures, c.in_ok-declare.ensures, c.as_slice.ensures, c.empty-context.ensures, c.as_slice-2.ensures)
+    (requirements_formed c.args.m.now c.requires)

@@ -33,7 +33,8 @@ use Rattle.derive_search.specs.declared.found.Found.{Found}
 use Rattle.derive_search.specs.declared.seeker.Seeker.{Seeker}
 use Rattle.derive_search.specs.Words.{Seek, give}
 use Rattle.derive_search.specs.Guide.{Guide}
-use Rattle.derive_search.specs.Lemmas.{most_steps, rewriting as rewritten_by, stepped, step_node, over_step, where_some, by_steps}
+use Rattle.lemma_files.specs.Lemmas.{most_steps}
+use Rattle.derive_search.specs.Lemmas.{rewriting as rewritten_by, stepped, step_node, over_step, where_some, by_steps}
 use Rattle.derive_search.specs.Rows.{Candidate, first, plainly, certified, operations, bytes, element, entry, special, sum_goal, difference_goal, product_goal, shift_goal, byte_goal, index_goal, entry_goal}
 use Rattle.derive_search.specs.Expressions as search
 use Rattle.derive_search.specs.Expressions.{node, taken}

@@ -3,7 +3,8 @@ use Rattle.std.proofs.Common.{◌≡◌, refl, ap, arith, ℕ, zero, suc, ◌-�
 use Rattle.model_syntax.specs.declared.expr.Expr.{Expr}
 use Rattle.derive_search.specs.declared.seeker.Seeker.{Seeker}
 use Rattle.derive_search.specs.Guide.{Guide}
-use Rattle.derive_search.specs.Lemmas.{most_steps, rewriting}
+use Rattle.lemma_files.specs.Lemmas.{most_steps}
+use Rattle.derive_search.specs.Lemmas.{rewriting}
 use Rattle.derive_search.specs.Expressions.{goal_of, by_lemma}
 
 pub goal_again : (g : Guide) (deep stmt above : ℕ) (e : Expr) (s : Seeker) → (deep ≡ 0 → ⊥)

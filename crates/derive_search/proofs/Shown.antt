@@ -3,7 +3,7 @@ use Rattle.std.proofs.Common.{◌≡◌, refl, ap, arith, ℕ, ◌-◌, Bool, tr
 use Rattle.std.specs.Ordering.{int_eq}
 use Rattle.std.specs.Int.Signed.{le_z}
 use Rattle.std.proofs.lemmas.Int.{ints}
-use Rattle.model_syntax.specs.Linear.{linear}
+use Rattle.model_syntax.specs.Linear.{linear, is_narrow}
 use Rattle.model_syntax.specs.declared.stmt.Le.{Le}
 use Rattle.side_certs.specs.LinearForm.{LinearForm}
 use Rattle.side_certs.specs.declared.certificate.Cert.{Cert}
@@ -14,7 +14,7 @@ use Rattle.cert_search.specs.Search.{found}
 use Rattle.cert_search.proofs.laws.Found.{found_closes}
 use Rattle.sym_heap.specs.Context.{Context}
 use Rattle.sym_heap.specs.Sides.{IsNarrow}
-use Rattle.stmt_rules.specs.Narrow.{is_narrow, all_narrow}
+use Rattle.stmt_rules.specs.Narrow.{all_narrow}
 use Rattle.derive_search.specs.Rows.{has_few_facts, certificate}
 use Rattle.derive_search.specs.Kept.{led, after_those}
 

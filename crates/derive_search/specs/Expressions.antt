@@ -28,7 +28,8 @@ use Rattle.expr_rules.specs.rules.Tab as tab
 use Rattle.derive_search.specs.declared.found.Found.{Found}
 use Rattle.derive_search.specs.Words.{Seek, ◌>>=◌, over, enter, where_holds, in_context}
 use Rattle.derive_search.specs.Guide.{Guide}
-use Rattle.derive_search.specs.Lemmas.{most_steps, rewriting, by_steps}
+use Rattle.lemma_files.specs.Lemmas.{most_steps}
+use Rattle.derive_search.specs.Lemmas.{rewriting, by_steps}
 use Rattle.derive_search.specs.Rows.{Chosen, Candidate, plainly, first, operations, bytes, element, entry}
 
 -- the refusal at a goal of this statement: the expression in its canonical spelling

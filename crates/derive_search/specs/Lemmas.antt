@@ -13,10 +13,6 @@ use Rattle.expr_rules.specs.rules.Rw.{step_of}
 use Rattle.derive_search.specs.declared.found.Found.{Found}
 use Rattle.derive_search.specs.Words.{Seek, ◌>>=◌, give, enter}
 
--- at most so many nodes of the rule of equations stand directly inside one another
-abbrev pub most_steps : ℕ
-most_steps = 8
-
 -- the steps, where they are at most so many
 abbrev pub at_most : ℕ → List ℕ → Option (List ℕ)
 at_most room steps = if nat_le (length steps) room then Some steps else None

@@ -2,7 +2,8 @@
 ghost use Rattle.std.specs.Prelude.{◌≡◌, true, option_and_then, IfOk};
 ghost use Rattle.side_certs.specs.LinearForm.{within};
 ghost use Rattle.sym_heap.specs.Sides.{difference as difference_of, form_of};
-ghost use Rattle.stmt_rules.specs.Narrow.{is_narrow, all_narrow};
+ghost use Rattle.model_syntax.specs.Linear.{is_narrow};
+ghost use Rattle.stmt_rules.specs.Narrow.{all_narrow};
 ghost use Rattle.derive_search.specs.Rows as rows;
 ghost use Rattle.derive_search.specs.Kept as spec;
 

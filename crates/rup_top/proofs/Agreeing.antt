@@ -13,7 +13,8 @@ use Rattle.rup_top.specs.commands.Eval.{CallsModel}
 use Rattle.rup_top.proofs.shown.Run.{run_gives}
 use Rattle.rup_top.proofs.shown.Eval.{eval_gives}
 
-module _ (files : List (List ℕ × List ℕ)) (model image : List ℕ) (texts : List (List ℕ)) (given : HoldsBoth (Some files) model image texts) where
+module _ (files : List (List ℕ × List ℕ)) (model image : List ℕ) (texts : List (List ℕ))
+    (given : HoldsBoth (Some files) model image texts) where
   for_eval : CallsModel (Some files) model texts
   for_eval = record {
     bytes = given.text;

@@ -56,24 +56,30 @@ two c call ends is = by_usage (usage_or c)
     by_usage : (c ≡ usage) ⊎ (c ≡ usage → ⊥) → c ≡ usage
     by_usage (inl usage_is) = usage_is
     by_usage (inr asks) =
-        absurd (no_status (script_of c) call 2 (omega arith) (λ a comes. ((shows c asks).proper call.files.held a comes).no_usage) (ending (script_of c) call ends) is)
+        absurd (no_status (script_of c) call 2 (omega arith) (λ a comes. ((shows c asks).proper call.files.held a comes).no_usage)
+        (ending (script_of c) call ends) is)
 
 -- usage: status 2, or a write failed, or memory ran out
-usage_ends : (call : Call) → Ending (script_of usage) call → (call.status ≡ 2) ⊎ (((call.status ≡ 4) × (Rose call.out.before call.out.now ⊎ Rose call.notes.before call.notes.now)) ⊎ (call.status ≡ 5))
+usage_ends : (call : Call) → Ending (script_of usage) call
+    → (call.status ≡ 2) ⊎ (((call.status ≡ 4) × (Rose call.out.before call.out.now ⊎ Rose call.notes.before call.notes.now))
+    ⊎ (call.status ≡ 5))
 usage_ends call (inl lack) = inr (inr lack.status_is)
 usage_ends call (inr (inl done)) = inl (done.whole.status_is ∙ ap (λ (x : Answer). x.status) done.came.comes)
 usage_ends call (inr (inr (inl failed))) = absurd failed.faulted.reached
 usage_ends call (inr (inr (inr cut))) = inr (inl (cut.status_is, cut.rose))
 
 pub on_usage : (c : Command) (call : Call) → Ends (script_of c) call → c ≡ usage
-    → (call.status ≡ 2) ⊎ (((call.status ≡ 4) × (Rose call.out.before call.out.now ⊎ Rose call.notes.before call.notes.now)) ⊎ (call.status ≡ 5))
-on_usage c call ends is = let P : Command → Type 0 = λ x. Ends (script_of x) call in usage_ends call (ending (script_of usage) call (subst P is ends))
+    → (call.status ≡ 2) ⊎ (((call.status ≡ 4) × (Rose call.out.before call.out.now ⊎ Rose call.notes.before call.notes.now))
+    ⊎ (call.status ≡ 5))
+on_usage c call ends is = let P : Command
+    → Type 0 = λ x. Ends (script_of x) call in usage_ends call (ending (script_of usage) call (subst P is ends))
 
 -- ---- Promises.
 
 usage_keeps : (call : Call) → Ends (script_of usage) call → call.status ≢ 0
 usage_keeps call ends =
-    no_status (script_of usage) call 0 (omega arith) (λ a is zero. let second : a.status ≡ 2 = ap (λ (x : Answer). x.status) is in omega (arith, second, zero))
+    no_status (script_of usage) call 0 (omega arith)
+    (λ a is zero. let second : a.status ≡ 2 = ap (λ (x : Answer). x.status) is in omega (arith, second, zero))
     (ending (script_of usage) call ends)
 
 pub keeps : (c : Command) (call : Call) → Ends (script_of c) call → Promise c call

@@ -1,5 +1,6 @@
 -- What follows of how a call ends, for its status and for both sinks, whatever the command.
-use Rattle.std.proofs.Common.{◌≡◌, ◌≢◌, ℕ, ◌≤◌, List, [], ◌∷◌, ◌++◌, Option, Some, None, ◌⊎◌, inl, inr, refl, sym, subst, ap, ◌∙◌, arith}
+use Rattle.std.proofs.Common.{◌≡◌, ◌≢◌, ℕ, ◌≤◌, List, [], ◌∷◌, ◌++◌, Option, Some, None, ◌⊎◌, inl, inr, refl, sym, subst, ap, ◌∙◌}
+use Rattle.std.proofs.Common.{arith}
 use Rattle.std.specs.Io.KnownBytes.{Appends, Keeps}
 use Rattle.rup_base.specs.declared.arg.Arg.{Arg}
 use Rattle.rup_base.specs.declared.refusal.Refusal.{Refusal}
@@ -7,7 +8,8 @@ use Rattle.rup_base.specs.declared.refusal.Refusal.TheVariants.{Stuck, TooLong}
 use Rattle.rup_io.specs.Count.{Rose}
 use Rattle.rup_top.specs.declared.answer.Answer.{Answer}
 use Rattle.rup_top.specs.Answer.{status_of, refused, read_fault}
-use Rattle.rup_top.specs.Frame.{Told, Call, IsUndisturbed, Script, comes_to, asks, takes, Comes, Came, Faulted, Answers, Whole, Delivers, OutOfMemory, Ends, Writes}
+use Rattle.rup_top.specs.Frame.{Told, Call, IsUndisturbed, Script, comes_to, asks, takes, Comes, Came, Faulted, Answers, Whole}
+use Rattle.rup_top.specs.Frame.{Delivers, OutOfMemory, Ends, Writes}
 
 -- ---- The answers of scripts.
 
@@ -22,18 +24,27 @@ pub record IsProper (a : Answer) : Type 0 where
   pub no_usage : a.status ≢ 2
 
 pub proper_done : (a : Answer) → a.status ≡ 0 → IsProper a
-proper_done a zero = record { plain = record { status_is = inl (omega (arith, zero)); silent = λ other. absurd (other zero) }; no_usage = λ e. omega (arith, zero, e) }
+proper_done a zero = record {
+  plain = record { status_is = inl (omega (arith, zero)); silent = λ other. absurd (other zero) };
+  no_usage = λ e. omega (arith, zero, e);
+}
 
 pub proper_silent : (a : Answer) → a.out ≡ [] → (a.status ≡ 1) ⊎ ((6 ≤ a.status) × (a.status ≤ 7)) → IsProper a
-proper_silent a silent (inl one) = record { plain = record { status_is = inl (omega (arith, one)); silent = λ other. silent }; no_usage = λ e. omega (arith, one, e) }
-proper_silent a silent (inr late) = record { plain = record { status_is = inr late; silent = λ other. silent }; no_usage = λ e. omega (arith, late.0, e) }
+proper_silent a silent (inl one) =
+    record {
+      plain = record { status_is = inl (omega (arith, one)); silent = λ other. silent };
+      no_usage = λ e. omega (arith, one, e);
+    }
+proper_silent a silent (inr late) =
+    record { plain = record { status_is = inr late; silent = λ other. silent }; no_usage = λ e. omega (arith, late.0, e) }
 
 pub refusal_status : (r : Refusal) → (status_of r ≡ 1) ⊎ (status_of r ≡ 6)
 refusal_status (Stuck stmt goal) = inr refl
 refusal_status r = inl refl
 
 pub proper_refused : (r : Refusal) → IsProper (refused r)
-proper_refused r = proper_silent (refused r) refl (elim (refusal_status r) [ inl one ↦ inl one | inr six ↦ inr (omega (arith, six), omega (arith, six)) ])
+proper_refused r = proper_silent (refused r) refl
+    (elim (refusal_status r) [ inl one ↦ inl one | inr six ↦ inr (omega (arith, six), omega (arith, six)) ])
 
 pub refused_not_zero : (r : Refusal) (a : Answer) → a ≡ refused r → a.status ≡ 0 → ⊥
 refused_not_zero r a is zero =
@@ -46,10 +57,13 @@ Leads P (comes_to verdict) = (a : Answer) → verdict a → P a
 Leads P (asks place name limit next) = (bytes : List ℕ) → Leads P (next bytes)
 Leads P (takes first kinds texts verdict) = (args : List Arg) (a : Answer) → verdict args a → P a
 
-pub leads : (P : Answer → Type 0) (held : Told) (s : Script) → ((r : Refusal) → P (refused r)) → Leads P s → (a : Answer) → Comes held s a → P a
+pub leads : (P : Answer → Type 0) (held : Told) (s : Script) → ((r : Refusal) → P (refused r)) → Leads P s → (a : Answer)
+    → Comes held s a → P a
 leads P held (comes_to verdict) refusals all a comes = all a comes
-leads P held (asks place name limit next) refusals all a (bytes, holds, inl (fits, comes)) = leads P held (next bytes) refusals (all bytes) a comes
-leads P held (asks place name limit next) refusals all a (bytes, holds, inr (long, is)) = subst P (sym is) (refusals (TooLong place limit))
+leads P held (asks place name limit next) refusals all a (bytes, holds, inl (fits, comes)) =
+    leads P held (next bytes) refusals (all bytes) a comes
+leads P held (asks place name limit next) refusals all a (bytes, holds, inr (long, is)) =
+    subst P (sym is) (refusals (TooLong place limit))
 leads P held (takes first kinds texts verdict) refusals all a (inl (args, taken, allows)) = all args a allows
 leads P held (takes first kinds texts verdict) refusals all a (inr (refusal, taken, is)) = subst P (sym is) (refusals refusal)
 
@@ -110,35 +124,41 @@ same_keeps (Some xs) (Some ys) e = cc
 -- ---- Statuses, where each answer is plain.
 
 plain_status : (a : Answer) (k : ℕ) → IsPlain a → a.status ≡ k → 3 ≤ k → k ≤ 5 → ⊥
-plain_status a k plain is least most = elim plain.status_is [ inl low ↦ omega (arith, low, is, least) | inr high ↦ omega (arith, high.0, is, most) ]
+plain_status a k plain is least most =
+    elim plain.status_is [ inl low ↦ omega (arith, low, is, least) | inr high ↦ omega (arith, high.0, is, most) ]
 
 module _ (script : Script) (call : Call) (plain : (a : Answer) → Comes call.files.held script a → IsPlain a) where
   -- every status is from 0 to 7
   pub at_most : Ending script call → call.status ≤ 7
   at_most (inl lack) = omega (arith, lack.status_is)
   at_most (inr (inl done)) =
-      elim (plain done.answer done.came.comes).status_is [ inl low ↦ omega (arith, low, done.whole.status_is) | inr high ↦ omega (arith, high.1, done.whole.status_is) ]
+      elim (plain done.answer done.came.comes).status_is
+      [ inl low ↦ omega (arith, low, done.whole.status_is) | inr high ↦ omega (arith, high.1, done.whole.status_is) ]
   at_most (inr (inr (inl failed))) = omega (arith, failed.whole.status_is)
   at_most (inr (inr (inr cut))) = omega (arith, cut.status_is)
 
   -- status 3 comes only where a fetch failed
   pub three : Ending script call → call.status ≡ 3 → Faulted script call.files
   three (inl lack) is = absurd (omega (arith, lack.status_is, is))
-  three (inr (inl done)) is = absurd (plain_status done.answer 3 (plain done.answer done.came.comes) (sym done.whole.status_is ∙ is) (omega arith) (omega arith))
+  three (inr (inl done)) is = absurd
+      (plain_status done.answer 3 (plain done.answer done.came.comes) (sym done.whole.status_is ∙ is) (omega arith) (omega arith))
   three (inr (inr (inl failed))) is = failed.faulted
   three (inr (inr (inr cut))) is = absurd (omega (arith, cut.status_is, is))
 
   -- status 4 comes only where a write failed
   pub four : Ending script call → call.status ≡ 4 → Rose call.out.before call.out.now ⊎ Rose call.notes.before call.notes.now
   four (inl lack) is = absurd (omega (arith, lack.status_is, is))
-  four (inr (inl done)) is = absurd (plain_status done.answer 4 (plain done.answer done.came.comes) (sym done.whole.status_is ∙ is) (omega arith) (omega arith))
+  four (inr (inl done)) is = absurd
+      (plain_status done.answer 4 (plain done.answer done.came.comes) (sym done.whole.status_is ∙ is) (omega arith) (omega arith))
   four (inr (inr (inl failed))) is = absurd (omega (arith, failed.whole.status_is, is))
   four (inr (inr (inr cut))) is = cut.rose
 
   -- status 5 leaves both sinks as they were
-  pub five : Ending script call → call.status ≡ 5 → (call.out.taken_now ≡ call.out.taken) × (call.notes.taken_now ≡ call.notes.taken)
+  pub five : Ending script call → call.status ≡ 5
+      → (call.out.taken_now ≡ call.out.taken) × (call.notes.taken_now ≡ call.notes.taken)
   five (inl lack) is = (lack.out_same, lack.notes_same)
-  five (inr (inl done)) is = absurd (plain_status done.answer 5 (plain done.answer done.came.comes) (sym done.whole.status_is ∙ is) (omega arith) (omega arith))
+  five (inr (inl done)) is = absurd
+      (plain_status done.answer 5 (plain done.answer done.came.comes) (sym done.whole.status_is ∙ is) (omega arith) (omega arith))
   five (inr (inr (inl failed))) is = absurd (omega (arith, failed.whole.status_is, is))
   five (inr (inr (inr cut))) is = absurd (omega (arith, cut.status_is, is))
 
@@ -146,12 +166,14 @@ module _ (script : Script) (call : Call) (plain : (a : Answer) → Comes call.fi
   pub unchanged : Ending script call → call.status ≢ 0 → call.status ≢ 4 → Keeps call.out.taken call.out.taken_now
   unchanged (inl lack) zero four = same_keeps call.out.taken call.out.taken_now lack.out_same
   unchanged (inr (inl done)) zero four =
-      keeps_nothing call.out.taken call.out.taken_now done.answer.out ((plain done.answer done.came.comes).silent (λ e. zero (done.whole.status_is ∙ e))) done.whole.out_takes
+      keeps_nothing call.out.taken call.out.taken_now done.answer.out
+      ((plain done.answer done.came.comes).silent (λ e. zero (done.whole.status_is ∙ e))) done.whole.out_takes
   unchanged (inr (inr (inl failed))) zero four = keeps_nothing call.out.taken call.out.taken_now [] refl failed.whole.out_takes
   unchanged (inr (inr (inr cut))) zero four = absurd (four cut.status_is)
 
 -- a status that no outcome has is that of want of memory, of a read fault or of a write fault
-pub no_status : (script : Script) (call : Call) (k : ℕ) → k ≤ 2 → ((a : Answer) → Comes call.files.held script a → a.status ≢ k) → Ending script call → call.status ≢ k
+pub no_status : (script : Script) (call : Call) (k : ℕ) → k ≤ 2 → ((a : Answer) → Comes call.files.held script a → a.status ≢ k)
+    → Ending script call → call.status ≢ k
 no_status script call k low none (inl lack) is = omega (arith, lack.status_is, is, low)
 no_status script call k low none (inr (inl done)) is = none done.answer done.came.comes (sym done.whole.status_is ∙ is)
 no_status script call k low none (inr (inr (inl failed))) is = omega (arith, failed.whole.status_is, is, low)
@@ -164,7 +186,8 @@ pub undisturbed : (script : Script) (call : Call) → IsUndisturbed call → End
 undisturbed script call quiet (inl lack) = inr lack.status_is
 undisturbed script call quiet (inr (inl done)) = inl done
 undisturbed script call quiet (inr (inr (inl failed))) = absurd (quiet.files_same failed.faulted.rose)
-undisturbed script call quiet (inr (inr (inr cut))) = absurd (elim cut.rose [ inl out ↦ quiet.out_same out | inr notes ↦ quiet.notes_same notes ])
+undisturbed script call quiet (inr (inr (inr cut))) =
+    absurd (elim cut.rose [ inl out ↦ quiet.out_same out | inr notes ↦ quiet.notes_same notes ])
 
 -- an answer of status 0 with these bytes for `out`
 pub record Gives (bytes : List ℕ) (a : Answer) : Type 0 where
@@ -172,7 +195,8 @@ pub record Gives (bytes : List ℕ) (a : Answer) : Type 0 where
   pub out_is : a.out ≡ bytes
 
 -- a call whose outcome is such an answer writes its bytes, or memory runs out
-pub written : (script : Script) (bytes : List ℕ) (call : Call) (held : List (List ℕ × List ℕ)) → call.files.held ≡ Some held → IsUndisturbed call → Ends script call
+pub written : (script : Script) (bytes : List ℕ) (call : Call) (held : List (List ℕ × List ℕ)) → call.files.held ≡ Some held
+    → IsUndisturbed call → Ends script call
     → ((a : Answer) → Comes (Some held) script a → Gives bytes a) → Writes bytes call
 written script bytes call held told quiet ends comes_so = by_end (undisturbed script call quiet (ending script call ends))
   where

@@ -21,11 +21,13 @@ typed_well m (Ok n) e = judged_well n m (judge n) refl e
 typed_well m (Err r) e = absurd (cc)
 
 -- a model that is read and typed is formed
-judged_formed : (n m : Model) (j : Result (Unit {0}) Refusal) → model_formed n ≡ true → (j >>= (λ u. Ok n)) ≡ Ok m → model_formed m ≡ true
+judged_formed : (n m : Model) (j : Result (Unit {0}) Refusal) → model_formed n ≡ true → (j >>= (λ u. Ok n)) ≡ Ok m
+    → model_formed m ≡ true
 judged_formed n m (Ok u) formed e = let same : n ≡ m = cc in subst (λ (x : Model). model_formed x ≡ true) same formed
 judged_formed n m (Err r) formed e = absurd (cc)
 
-pub typed_formed : (bytes : List ℕ) (m : Model) (r : Result Model Refusal) → read_model 1 bytes ≡ r → and_then r checked ≡ Ok m → model_formed m ≡ true
+pub typed_formed : (bytes : List ℕ) (m : Model) (r : Result Model Refusal) → read_model 1 bytes ≡ r → and_then r checked ≡ Ok m
+    → model_formed m ≡ true
 typed_formed bytes m (Ok n) is e = judged_formed n m (judge n) (answered_formed 1 bytes (Ok n) is) e
 typed_formed bytes m (Err r) is e = absurd (cc)
 
@@ -34,6 +36,7 @@ judged_within : (n m : Model) (j : Result (Unit {0}) Refusal) → Within n → (
 judged_within n m (Ok u) within e = let same : n ≡ m = cc in subst (λ (x : Model). Within x) same within
 judged_within n m (Err r) within e = absurd (cc)
 
-pub typed_within : (bytes : List ℕ) (m : Model) (r : Result Model Refusal) → read_model 1 bytes ≡ r → and_then r checked ≡ Ok m → Within m
+pub typed_within : (bytes : List ℕ) (m : Model) (r : Result Model Refusal) → read_model 1 bytes ≡ r → and_then r checked ≡ Ok m
+    → Within m
 typed_within bytes m (Ok n) is e = judged_within n m (judge n) (answered_only 1 bytes (Ok n) is).1 e
 typed_within bytes m (Err r) is e = absurd (cc)

@@ -1,5 +1,6 @@
 -- No context that a rule leaves has more symbols than there are numbers for.
-use Rattle.std.proofs.Common.{◌≡◌, refl, arith, ℕ, ◌≤◌, nat_lt, Bool, true, false, is_some, List, [], ◌∷◌, length, length-append, Option, Some, None, Result}
+use Rattle.std.proofs.Common.{◌≡◌, refl, arith, ℕ, ◌≤◌, nat_lt, Bool, true, false, is_some, List, [], ◌∷◌, length, length-append}
+use Rattle.std.proofs.Common.{Option, Some, None, Result}
 use Rattle.std.proofs.lemmas.Bool.{ltb-true}
 use Rattle.std.specs.List.{find, list_all}
 use Rattle.rup_base.specs.declared.refusal.Refusal.{Refusal}
@@ -24,7 +25,8 @@ use Rattle.stmt_rules.specs.declared.loops.ElementLocals.{ElementLocals}
 use Rattle.stmt_rules.specs.declared.loops.FoldLocals.{FoldLocals}
 use Rattle.stmt_rules.specs.declared.output.StmtOut.{StmtOut}
 use Rattle.stmt_rules.specs.Loops.{is_entry_form, length_code, has_trips, mentions, kept_unless, all_kept_but, element_kind}
-use Rattle.stmt_rules.specs.Nesting.{all_added, all_kept, kept_fact, renewed, all_renewed, placed, taken, unlisted_reserved, stands_alike, is_array_alike, now}
+use Rattle.stmt_rules.specs.Nesting.{all_added, all_kept, kept_fact, renewed, all_renewed, placed, taken, unlisted_reserved}
+use Rattle.stmt_rules.specs.Nesting.{stands_alike, is_array_alike, now}
 use Rattle.stmt_rules.specs.rules.Fold as fold_rule
 use Rattle.stmt_rules.specs.rules.For as for_rule
 use Rattle.stmt_rules.specs.rules.If as if_rule
@@ -101,23 +103,27 @@ keeps_unless false at r = keeps_kept at r
 keeps_kept_but : (at : ℕ) (x : Name) (rs : List Le) → Keeps (all_kept_but at x rs)
 keeps_kept_but at x [] = λ c room. room
 keeps_kept_but at x (r ∷ rs) =
-    keeps_then (kept_unless (mentions x r) at r) (λ u. all_kept_but at x rs) (keeps_unless (mentions x r) at r) (λ u. keeps_kept_but at x rs)
+    keeps_then (kept_unless (mentions x r) at r) (λ u. all_kept_but at x rs) (keeps_unless (mentions x r) at r)
+    (λ u. keeps_kept_but at x rs)
 
 -- Scalars.
 
 keeps_renewed : (at : ℕ) (y : Name) (o : Option Held) → Keeps (renewed at y o)
 keeps_renewed at y None = λ c room. room
-keeps_renewed at y (Some h) = keeps_then (fresh at (top_of h.kind)) (λ s. placed y h.local s h.kind) (keeps_fresh at (top_of h.kind)) (λ s c room. room)
+keeps_renewed at y (Some h) = keeps_then (fresh at (top_of h.kind)) (λ s. placed y h.local s h.kind)
+    (keeps_fresh at (top_of h.kind)) (λ s c room. room)
 
 keeps_all_renewed : (at : ℕ) (ys : List Name) (hs : List Held) → Keeps (all_renewed at ys hs)
 keeps_all_renewed at [] hs = λ c room. room
 keeps_all_renewed at (y ∷ ys) hs =
-    keeps_then (renewed at y (find (is_scalar y) hs)) (λ u. all_renewed at ys hs) (keeps_renewed at y (find (is_scalar y) hs)) (λ u. keeps_all_renewed at ys hs)
+    keeps_then (renewed at y (find (is_scalar y) hs)) (λ u. all_renewed at ys hs) (keeps_renewed at y (find (is_scalar y) hs))
+    (λ u. keeps_all_renewed at ys hs)
 
 -- Conditionals and loops.
 
 pub if_begins : (at : ℕ) (names : List Name) (facts : List LinearForm) (hs : List Held) → Keeps (if_rule.begins at names facts hs)
-if_begins at names facts hs = keeps_then (all_added at facts) (λ u. unlisted_reserved names hs) (keeps_all_added at facts) (λ u c room. room)
+if_begins at names facts hs = keeps_then (all_added at facts) (λ u. unlisted_reserved names hs) (keeps_all_added at facts)
+    (λ u c room. room)
 
 -- after the conditions on both ends
 abbrev joined : ℕ → List Name → List Le → List Held → Rule (Unit {0})
@@ -128,11 +134,14 @@ taken_joined at names keep one two = taken names one two >>= (λ w. joined at na
 
 pub if_joins : (at : ℕ) (names : List Name) (keep : List Le) (one two : Standing) → Keeps (if_rule.joins at names keep one two)
 if_joins at names keep one two =
-    keeps_then (need (list_all (stands_alike one two) names) at 7) (λ u. need (list_all (is_array_alike one two) names) at 8 >>= (λ v. taken_joined at names keep one two))
+    keeps_then (need (list_all (stands_alike one two) names) at 7)
+    (λ u. need (list_all (is_array_alike one two) names) at 8 >>= (λ v. taken_joined at names keep one two))
     (keeps_need (list_all (stands_alike one two) names) at 7)
-    (λ u. keeps_then (need (list_all (is_array_alike one two) names) at 8) (λ v. taken_joined at names keep one two) (keeps_need (list_all (is_array_alike one two) names) at 8)
+    (λ u. keeps_then (need (list_all (is_array_alike one two) names) at 8) (λ v. taken_joined at names keep one two)
+    (keeps_need (list_all (is_array_alike one two) names) at 8)
     (λ v. keeps_then (taken names one two) (λ w. joined at names keep one.scalars) (λ c room. room)
-    (λ w. keeps_then (all_renewed at names one.scalars) (λ x. all_kept at keep) (keeps_all_renewed at names one.scalars) (λ x. keeps_all_kept at keep))))
+    (λ w. keeps_then (all_renewed at names one.scalars) (λ x. all_kept at keep) (keeps_all_renewed at names one.scalars)
+    (λ x. keeps_all_kept at keep))))
 
 -- the last facts at the start of a loop's block, and what comes before them
 abbrev bounded : ℕ → LinearForm → LinearForm → LinearForm → Rule (Unit {0})
@@ -147,67 +156,92 @@ kept_apart at names keep k low high hs s = for_rule.loop_reserved names k hs >>=
 abbrev counts : ℕ → Name → List Name → List Le → Counter → LinearForm → LinearForm → List Held → LinearForm → Rule (Unit {0})
 counts at x names keep k low high hs s = placed x k.count s Word >>= (λ v. kept_apart at names keep k low high hs s)
 
-pub for_begins : (at : ℕ) (x : Name) (names : List Name) (keep : List Le) (k : Counter) (low high : LinearForm) (hs : List Held) → Keeps (for_rule.begins at x names keep k low high hs)
+pub for_begins : (at : ℕ) (x : Name) (names : List Name) (keep : List Le) (k : Counter) (low high : LinearForm) (hs : List Held)
+    → Keeps (for_rule.begins at x names keep k low high hs)
 for_begins at x names keep k low high hs =
-    keeps_then (all_renewed at names hs) (λ u. fresh at (top_of Word) >>= counts at x names keep k low high hs) (keeps_all_renewed at names hs)
+    keeps_then (all_renewed at names hs) (λ u. fresh at (top_of Word) >>= counts at x names keep k low high hs)
+    (keeps_all_renewed at names hs)
     (λ u. keeps_then (fresh at (top_of Word)) (counts at x names keep k low high hs) (keeps_fresh at (top_of Word))
     (λ s. keeps_then (placed x k.count s Word) (λ v. kept_apart at names keep k low high hs s) (λ c room. room)
     (λ v. keeps_then (for_rule.loop_reserved names k hs) (λ w. known at keep low high s) (λ c room. room)
     (λ w. keeps_then (all_kept at keep) (λ y. bounded at low high s) (keeps_all_kept at keep)
-    (λ y. keeps_then (fact at (for_rule.from_low s low)) (λ z. fact at (for_rule.below_high s high)) (keeps_fact at (for_rule.from_low s low)) (λ z. keeps_fact at (for_rule.below_high s high)))))))
+    (λ y. keeps_then (fact at (for_rule.from_low s low)) (λ z. fact at (for_rule.below_high s high))
+    (keeps_fact at (for_rule.from_low s low)) (λ z. keeps_fact at (for_rule.below_high s high)))))))
 
-pub for_leaves : (at : ℕ) (x : Name) (names : List Name) (keep : List Le) (end_ : Standing) → Keeps (for_rule.leaves at x names keep end_)
+pub for_leaves : (at : ℕ) (x : Name) (names : List Name) (keep : List Le) (end_ : Standing)
+    → Keeps (for_rule.leaves at x names keep end_)
 for_leaves at x names keep end_ d room =
     keeps_then (taken names end_ end_) (λ u. all_renewed at names d.scalars >>= (λ v. all_kept_but at x keep)) (λ c there. there)
-    (λ u. keeps_then (all_renewed at names d.scalars) (λ v. all_kept_but at x keep) (keeps_all_renewed at names d.scalars) (λ v. keeps_kept_but at x keep)) d room
+    (λ u. keeps_then (all_renewed at names d.scalars) (λ v. all_kept_but at x keep) (keeps_all_renewed at names d.scalars)
+    (λ v. keeps_kept_but at x keep)) d room
 
 -- Loops over arrays.
 
 element_named : (at : ℕ) (x : Name) (l : ℕ) (k : Clause) → Keeps (map_rule.named_element at x l k)
-element_named at x l k = keeps_then (fresh at (element_top k.size)) (λ s. placed x l s (element_kind k)) (keeps_fresh at (element_top k.size)) (λ s c room. room)
+element_named at x l k = keeps_then (fresh at (element_top k.size)) (λ s. placed x l s (element_kind k))
+    (keeps_fresh at (element_top k.size)) (λ s c room. room)
 
 map_begins : (at : ℕ) (a x : Name) (l : ElementLocals) (k : Clause) → Keeps (map_rule.begins at a x l k)
 map_begins at a x l k =
     keeps_then (map_rule.dropped at a) (λ u. map_rule.named_element at x l.element k)
-    (λ c room. keeps_then (need (is_some (own c a)) at 4) (λ u. map_rule.without a) (keeps_need (is_some (own c a)) at 4) (λ u d there. there) c room)
+    (λ c room. keeps_then (need (is_some (own c a)) at 4) (λ u. map_rule.without a) (keeps_need (is_some (own c a)) at 4)
+    (λ u d there. there) c room)
     (λ u. element_named at x l.element k)
 
 pub map_starts : (at : ℕ) (a x : Name) (l : ElementLocals) → Keeps (map_opens at a x l)
 map_starts at a x l =
     keeps_then (map_rule.array at a l) (λ k. now >>= (λ c. map_rule.begins at a x l k >>= (λ u. give (k, standing c))))
-    (λ c room. keeps_then (found (own c a) at 4) (λ k. need (map_rule.are_unused l c) at 5 >>= (λ u. give k)) (keeps_found (own c a) at 4)
-    (λ k. keeps_then (need (map_rule.are_unused l c) at 5) (λ u. give k) (keeps_need (map_rule.are_unused l c) at 5) (λ u d there. there)) c room)
-    (λ k c room. keeps_then (map_rule.begins at a x l k) (λ u. give (k, standing c)) (map_begins at a x l k) (λ u d there. there) c room)
+    (λ c room. keeps_then (found (own c a) at 4) (λ k. need (map_rule.are_unused l c) at 5 >>= (λ u. give k))
+    (keeps_found (own c a) at 4)
+    (λ k. keeps_then (need (map_rule.are_unused l c) at 5) (λ u. give k) (keeps_need (map_rule.are_unused l c) at 5)
+    (λ u d there. there)) c room)
+    (λ k c room. keeps_then (map_rule.begins at a x l k) (λ u. give (k, standing c)) (map_begins at a x l k) (λ u d there. there)
+    c room)
 
-before_end : (at : ℕ) (k : Clause) (ends : Rule (Unit {0})) (out : BExpr → StmtOut) → Keeps ends → Keeps (length_code at k >>= (λ high. has_trips at k >>= (λ u. ends >>= (λ v. give (out high)))))
+before_end : (at : ℕ) (k : Clause) (ends : Rule (Unit {0})) (out : BExpr → StmtOut) → Keeps ends
+    → Keeps (length_code at k >>= (λ high. has_trips at k >>= (λ u. ends >>= (λ v. give (out high)))))
 before_end at k ends out keeps =
-    keeps_then (length_code at k) (λ high. has_trips at k >>= (λ u. ends >>= (λ v. give (out high)))) (keeps_found (len.code k) at 4)
-    (λ high. keeps_then (has_trips at k) (λ u. ends >>= (λ v. give (out high))) (λ c room. keeps_need (is_entry_form c.entries k.length) at 4 c room)
+    keeps_then (length_code at k) (λ high. has_trips at k >>= (λ u. ends >>= (λ v. give (out high))))
+    (keeps_found (len.code k) at 4)
+    (λ high. keeps_then (has_trips at k) (λ u. ends >>= (λ v. give (out high)))
+    (λ c room. keeps_need (is_entry_form c.entries k.length) at 4 c room)
     (λ u. keeps_then ends (λ v. give (out high)) keeps (λ v c room. room)))
 
-pub map_after : (at : ℕ) (a : Name) (l : ElementLocals) (k : Clause) (before : Standing) (e : BExpr) → Keeps (map_rule.after at a l k before e)
+pub map_after : (at : ℕ) (a : Name) (l : ElementLocals) (k : Clause) (before : Standing) (e : BExpr)
+    → Keeps (map_rule.after at a l k before e)
 map_after at a l k before e =
     before_end at k (map_rule.ends at a before) (λ high. map_rule.mapping l k high e)
     (keeps_then (map_rule.returned before) (λ u. map_rule.room at a >>= (λ v. put_rule.counted_write a)) (λ c room. room)
     (λ u. keeps_then (map_rule.room at a) (λ v. put_rule.counted_write a)
-    (λ c room. keeps_then (found (own c a) at 4) (λ j. need (nat_lt j.writes put_rule.most_writes) at 3) (keeps_found (own c a) at 4) (λ j. keeps_need (nat_lt j.writes put_rule.most_writes) at 3) c room)
+    (λ c room. keeps_then (found (own c a) at 4) (λ j. need (nat_lt j.writes put_rule.most_writes) at 3)
+    (keeps_found (own c a) at 4) (λ j. keeps_need (nat_lt j.writes put_rule.most_writes) at 3) c room)
     (λ v c room. room)))
 
 scalar_named : (at : ℕ) (s : Name) (l : FoldLocals) (t : Scalar) → Keeps (fold_rule.renamed at s l t)
-scalar_named at s l t = keeps_then (fresh at (top_of t)) (λ f. placed s l.so_far f t) (keeps_fresh at (top_of t)) (λ f c room. room)
+scalar_named at s l t = keeps_then (fresh at (top_of t)) (λ f. placed s l.so_far f t) (keeps_fresh at (top_of t))
+    (λ f c room. room)
 
 pub fold_starts : (at : ℕ) (s a x : Name) (l : FoldLocals) → Keeps (fold_opens at s a x l)
 fold_starts at s a x l =
-    keeps_then (fold_rule.array at s a l) (λ k. fold_rule.start at s >>= (λ first. now >>= (λ c. fold_rule.begins at s x l k first.1 >>= (λ u. give (k, first, standing c)))))
-    (λ c room. keeps_then (found (own c a) at 4) (λ k. need (fold_rule.are_unused s l c) at 5 >>= (λ u. give k)) (keeps_found (own c a) at 4)
-    (λ k. keeps_then (need (fold_rule.are_unused s l c) at 5) (λ u. give k) (keeps_need (fold_rule.are_unused s l c) at 5) (λ u d there. there)) c room)
-    (λ k. keeps_then (fold_rule.start at s) (λ first. now >>= (λ c. fold_rule.begins at s x l k first.1 >>= (λ u. give (k, first, standing c))))
-    (λ c room. keeps_then (found (scalar c s) at 1) (λ h. give (h.local, h.kind)) (keeps_found (scalar c s) at 1) (λ h d there. there) c room)
+    keeps_then (fold_rule.array at s a l)
+    (λ k. fold_rule.start at s >>=
+    (λ first. now >>= (λ c. fold_rule.begins at s x l k first.1 >>= (λ u. give (k, first, standing c)))))
+    (λ c room. keeps_then (found (own c a) at 4) (λ k. need (fold_rule.are_unused s l c) at 5 >>= (λ u. give k))
+    (keeps_found (own c a) at 4)
+    (λ k. keeps_then (need (fold_rule.are_unused s l c) at 5) (λ u. give k) (keeps_need (fold_rule.are_unused s l c) at 5)
+    (λ u d there. there)) c room)
+    (λ k. keeps_then (fold_rule.start at s)
+    (λ first. now >>= (λ c. fold_rule.begins at s x l k first.1 >>= (λ u. give (k, first, standing c))))
+    (λ c room. keeps_then (found (scalar c s) at 1) (λ h. give (h.local, h.kind)) (keeps_found (scalar c s) at 1)
+    (λ h d there. there) c room)
     (λ first c room. keeps_then (fold_rule.begins at s x l k first.1) (λ u. give (k, first, standing c))
-    (keeps_then (fold_rule.renamed at s l first.1) (λ u. map_rule.named_element at x l.turn.element k) (scalar_named at s l first.1) (λ u. element_named at x l.turn.element k))
+    (keeps_then (fold_rule.renamed at s l first.1) (λ u. map_rule.named_element at x l.turn.element k)
+    (scalar_named at s l first.1) (λ u. element_named at x l.turn.element k))
     (λ u d there. there) c room))
 
-pub fold_after : (at : ℕ) (s : Name) (l : FoldLocals) (k : Clause) (first : ℕ × Scalar) (before : Standing) (e : BExpr) → Keeps (fold_rule.after at s l k first before e)
+pub fold_after : (at : ℕ) (s : Name) (l : FoldLocals) (k : Clause) (first : ℕ × Scalar) (before : Standing) (e : BExpr)
+    → Keeps (fold_rule.after at s l k first before e)
 fold_after at s l k first before e =
     before_end at k (fold_rule.ends at s l first.1 before) (λ high. fold_rule.folding l k first.0 high e)
-    (keeps_then (map_rule.returned before) (λ u. fold_rule.renamed at s l first.1) (λ c room. room) (λ u. scalar_named at s l first.1))
+    (keeps_then (map_rule.returned before) (λ u. fold_rule.renamed at s l first.1) (λ c room. room)
+    (λ u. scalar_named at s l first.1))

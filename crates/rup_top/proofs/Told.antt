@@ -20,7 +20,8 @@ take_nothing : (k : ℕ) → take {A = ℕ} k [] ≡ []
 take_nothing zero = refl
 take_nothing (suc k) = refl
 
-module _ (script : Script) (call : Call) (o n : List ℕ) (out_told : call.out.taken ≡ Some o) (notes_told : call.notes.taken ≡ Some n) where
+module _ (script : Script) (call : Call) (o n : List ℕ) (out_told : call.out.taken ≡ Some o)
+    (notes_told : call.notes.taken ≡ Some n) where
   whole_way : (a : Answer) → Answers script call.files a → Whole a call.out call.notes call.status → FourWays script call o n
   whole_way a (inl came) whole = inl (record {
     answer = a;
@@ -30,8 +31,10 @@ module _ (script : Script) (call : Call) (o n : List ℕ) (out_told : call.out.t
     notes_are = appended call.notes.taken call.notes.taken_now n a.note notes_told whole.notes_take;
   })
   whole_way a (inr (fault, is)) whole =
-      let out_now : call.out.taken_now ≡ Some (o ++ a.out) = appended call.out.taken call.out.taken_now o a.out out_told whole.out_takes in
-      let notes_now : call.notes.taken_now ≡ Some (n ++ a.note) = appended call.notes.taken call.notes.taken_now n a.note notes_told whole.notes_take in
+      let out_now : call.out.taken_now
+      ≡ Some (o ++ a.out) = appended call.out.taken call.out.taken_now o a.out out_told whole.out_takes in
+      let notes_now : call.notes.taken_now
+      ≡ Some (n ++ a.note) = appended call.notes.taken call.notes.taken_now n a.note notes_told whole.notes_take in
       inr (inl (record {
         status_is = whole.status_is ∙ ap (λ x. x.status) is;
         faulted = fault;
@@ -57,7 +60,8 @@ module _ (script : Script) (call : Call) (o n : List ℕ) (out_told : call.out.t
       rose = inl cut.rose;
       faulted = fault;
       taken = 0;
-      out_is = appended call.out.taken call.out.taken_now o _ out_told cut.out_takes.1 ∙ ap (λ x. Some (o ++ take cut.out_takes.0 x.out)) is
+      out_is = appended call.out.taken call.out.taken_now o _ out_told cut.out_takes.1
+          ∙ ap (λ x. Some (o ++ take cut.out_takes.0 x.out)) is
           ∙ ap (λ bytes. Some (o ++ bytes)) (take_nothing cut.out_takes.0) ∙ ap Some (append_nothing o);
       notes_are = kept call.notes.taken call.notes.taken_now n notes_told cut.notes_keep ∙ ap Some (sym (append_nothing n));
     })),
@@ -81,8 +85,10 @@ module _ (script : Script) (call : Call) (o n : List ℕ) (out_told : call.out.t
       rose = inr cut.rose;
       faulted = fault;
       taken = cut.notes_take.0;
-      out_is = appended call.out.taken call.out.taken_now o a.out out_told cut.out_takes ∙ ap (λ x. Some (o ++ x.out)) is ∙ ap Some (append_nothing o);
-      notes_are = appended call.notes.taken call.notes.taken_now n _ notes_told cut.notes_take.1 ∙ ap (λ x. Some (n ++ take cut.notes_take.0 x.note)) is;
+      out_is = appended call.out.taken call.out.taken_now o a.out out_told cut.out_takes ∙ ap (λ x. Some (o ++ x.out)) is
+          ∙ ap Some (append_nothing o);
+      notes_are = appended call.notes.taken call.notes.taken_now n _ notes_told cut.notes_take.1
+          ∙ ap (λ x. Some (n ++ take cut.notes_take.0 x.note)) is;
     })),
   )))
 

@@ -39,6 +39,7 @@ pub record HoldsBoth (held : Told) (model image : List ℕ) (texts : List (List 
 
 -- the outcomes of `run` and `eval` on the same argument words are done, and have the same bytes for `out`
 abbrev pub RunIsEval : Type 0
-RunIsEval = (held : List (List ℕ × List ℕ)) (model image : List ℕ) (texts : List (List ℕ)) → HoldsBoth (Some held) model image texts → (run_answer eval_answer : Answer)
+RunIsEval = (held : List (List ℕ × List ℕ)) (model image : List ℕ) (texts : List (List ℕ))
+    → HoldsBoth (Some held) model image texts → (run_answer eval_answer : Answer)
     → Comes (Some held) (run_script image texts) run_answer → Comes (Some held) (eval_script model texts) eval_answer
     → (run_answer.status ≡ 0) × (eval_answer.status ≡ 0) × (run_answer.out ≡ eval_answer.out)

@@ -41,7 +41,8 @@ WritesOnly command call = ⊤
 -- files that are accepted are replayed to status 0, or memory runs out
 abbrev pub WritesAll : Command → Call → Type 0
 WritesAll (replay model tree size) call =
-    (held : List (List ℕ × List ℕ)) → call.files.held ≡ Some held → AcceptsFiles size call.files.held model tree → IsUndisturbed call → (call.status ≡ 0) ⊎ (call.status ≡ 5)
+    (held : List (List ℕ × List ℕ)) → call.files.held ≡ Some held → AcceptsFiles size call.files.held model tree
+    → IsUndisturbed call → (call.status ≡ 0) ⊎ (call.status ≡ 5)
 WritesAll command call = ⊤
 
 -- Compiled. Status 0 of `compile` comes with the file of a derivation that is an instance of the model, which is read back as it

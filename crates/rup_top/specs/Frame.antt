@@ -44,7 +44,8 @@ pub record Call : Type 0 where
 
 -- files of a type with these meanings, before and after
 abbrev pub read_between : {F : Type 0} → (F → Told) → (F → ℕ) → (F → Option (List ℕ)) → F → F → Read
-read_between held count last old new = record { held = held old; before = count old; now = count new; last = last old; last_now = last new }
+read_between held count last old new =
+    record { held = held old; before = count old; now = count new; last = last old; last_now = last new }
 
 -- a sink of a type with these meanings, before and after
 abbrev pub sunk_between : {S : Type 0} → (S → ℕ) → (S → Option (List ℕ)) → S → S → Sunk
@@ -85,7 +86,8 @@ pub data Script : Type 1 where
 abbrev pub Comes : Told → Script → Answer → Type 0
 Comes held (comes_to verdict) a = verdict a
 Comes held (asks place name limit next) a =
-    (bytes : List ℕ) × Holds held name bytes × (((length bytes ≤ limit) × Comes held (next bytes) a) ⊎ ((limit < length bytes) × (a ≡ refused (TooLong place limit))))
+    (bytes : List ℕ) × Holds held name bytes
+    × (((length bytes ≤ limit) × Comes held (next bytes) a) ⊎ ((limit < length bytes) × (a ≡ refused (TooLong place limit))))
 Comes held (takes first kinds texts verdict) a =
     ((args : List Arg) × ReadsAll held first kinds texts (Ok args) × verdict args a)
     ⊎ ((refusal : Refusal) × ReadsAll held first kinds texts (Err (Refused refusal)) × (a ≡ refused refusal))
@@ -95,7 +97,8 @@ Comes held (takes first kinds texts verdict) a =
 abbrev pub Reaches : Told → Script → ℕ → List ℕ → Type 0
 Reaches held (comes_to verdict) place word = ⊥
 Reaches held (asks at name limit next) place word =
-    ((place ≡ at) × (word ≡ name)) ⊎ ((bytes : List ℕ) × Holds held name bytes × (length bytes ≤ limit) × Reaches held (next bytes) place word)
+    ((place ≡ at) × (word ≡ name))
+    ⊎ ((bytes : List ℕ) × Holds held name bytes × (length bytes ≤ limit) × Reaches held (next bytes) place word)
 Reaches held (takes first kinds texts verdict) place word =
     ReadsAll held first kinds texts (Err (ReadFault place)) × (slice_get texts (place - first) ≡ Some word)
 
@@ -201,7 +204,8 @@ pub record FaultCut (script : Script) (call : Call) (o n : List ℕ) : Type 0 wh
   pub notes_are : call.notes.taken_now ≡ Some (n ++ take taken (read_fault faulted.place).note)
 
 abbrev pub AsWriteFault : Script → Call → List ℕ → List ℕ → Type 0
-AsWriteFault script call o n = (call.status ≡ 4) × (OutCut script call o n ⊎ (NotesCut script call o n ⊎ FaultCut script call o n))
+AsWriteFault script call o n = (call.status ≡ 4)
+    × (OutCut script call o n ⊎ (NotesCut script call o n ⊎ FaultCut script call o n))
 
 -- want of memory, with both sinks as they were
 pub record AsNoMemory (call : Call) (o n : List ℕ) : Type 0 where
@@ -210,12 +214,14 @@ pub record AsNoMemory (call : Call) (o n : List ℕ) : Type 0 where
   pub notes_are : call.notes.taken_now ≡ Some n
 
 abbrev pub FourWays : Script → Call → List ℕ → List ℕ → Type 0
-FourWays script call o n = AsOutcome script call o n ⊎ (AsReadFault script call o n ⊎ (AsWriteFault script call o n ⊎ AsNoMemory call o n))
+FourWays script call o n = AsOutcome script call o n
+    ⊎ (AsReadFault script call o n ⊎ (AsWriteFault script call o n ⊎ AsNoMemory call o n))
 
 -- where files and sinks are told, a call ends in one of four ways
 abbrev pub IsTold : Script → Call → Type 0
 IsTold script call =
-    (held : List (List ℕ × List ℕ)) (o n : List ℕ) → call.files.held ≡ Some held → call.out.taken ≡ Some o → call.notes.taken ≡ Some n → FourWays script call o n
+    (held : List (List ℕ × List ℕ)) (o n : List ℕ) → call.files.held ≡ Some held → call.out.taken ≡ Some o
+    → call.notes.taken ≡ Some n → FourWays script call o n
 
 -- ---- What promises of commands say.
 

@@ -2,7 +2,8 @@
 use Rattle.std.specs.Prelude.{◌≤◌, length, map, drop, string_bytes, ⊤}
 use Rattle.rup_top.specs.declared.words.Request.{Request}
 use Rattle.rup_top.specs.declared.words.Request.TheVariants as request
-use Rattle.rup_top.specs.Words.{Command, usage, compile, replay, code, run, eval, show, bench, most_size, most_count, most_lemma_files}
+use Rattle.rup_top.specs.Words.{Command, usage, compile, replay, code, run, eval, show, bench, most_size, most_count}
+use Rattle.rup_top.specs.Words.{most_lemma_files}
 
 abbrev pub command_seen : Request → Command
 command_seen request.Usage = usage

@@ -1,5 +1,6 @@
 -- The words of a command line, and the command that they name.
-use Rattle.std.specs.Prelude.{ℕ, nat_eq, nat_le, ◌&&◌, List, [], ◌∷◌, length, Option, Some, None, option_and_then, codes, bytes_eq, if◌then◌else◌}
+use Rattle.std.specs.Prelude.{ℕ, nat_eq, nat_le, ◌&&◌, List, [], ◌∷◌, length, Option, Some, None, option_and_then, codes}
+use Rattle.std.specs.Prelude.{bytes_eq, if◌then◌else◌}
 use Rattle.rup_base.specs.Number.{numeral, number}
 use Rattle.run_setup.specs.Digits.{behind}
 

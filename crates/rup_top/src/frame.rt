@@ -20,8 +20,10 @@ pub fn fetch_word<F: Files>(
     files: &mut F,
 ) -> Result<Text, Stop>
     ensures held { F.held files.new ≡ F.held files.old }
-    ensures ok { IfOk result (λ bytes. steps.Fetched name.now limit bytes (read_between F.held F.faults F.last files.old files.new)) }
-    ensures err { IfErr result (λ stop. steps.Breaks (steps.fetch_alone place name.now limit) (read_between F.held F.faults F.last files.old files.new) stop) }
+    ensures ok { IfOk result (λ bytes. steps.Fetched name.now limit bytes
+        (read_between F.held F.faults F.last files.old files.new)) }
+    ensures err { IfErr result (λ stop. steps.Breaks (steps.fetch_alone place name.now limit)
+        (read_between F.held F.faults F.last files.old files.new) stop) }
 {
     match files.fetch(alloc, name, limit) {
         Ok(bytes) => Ok(bytes),
@@ -42,8 +44,11 @@ pub fn take_args<F: Files>(
     requires inside { first ≤ length words.now }
     requires places { first + length kinds.now < 2 ^ 32 }
     ensures held { F.held files.new ≡ F.held files.old }
-    ensures ok { IfOk result (λ args. steps.Taken first kinds.now (drop first (map string_bytes words.now)) args (read_between F.held F.faults F.last files.old files.new)) }
-    ensures err { IfErr result (λ stop. steps.Breaks (steps.arguments_alone first kinds.now (drop first (map string_bytes words.now))) (read_between F.held F.faults F.last files.old files.new) stop) }
+    ensures ok { IfOk result (λ args. steps.Taken first kinds.now (drop first (map string_bytes words.now)) args
+        (read_between F.held F.faults F.last files.old files.new)) }
+    ensures err { IfErr result (λ stop.
+        steps.Breaks (steps.arguments_alone first kinds.now (drop first (map string_bytes words.now)))
+        (read_between F.held F.faults F.last files.old files.new) stop) }
 {
     match read_args(alloc, kinds, words, first, files) {
         Ok(args) => Ok(args),
@@ -65,7 +70,8 @@ pub fn answered(alloc: Global, ended: Result<Answer, Stop>) -> Result<Answer, No
 
 /// Writes to `out` first, in one call, and then to `notes`; a text that is empty is not written. Gives the status.
 pub fn deliver<O: Sink, N: Sink>(answer: &Answer, out: &mut O, notes: &mut N) -> u8
-    ensures { Delivers answer.now (sunk_between O.faults O.taken out.old out.new) (sunk_between N.faults N.taken notes.old notes.new) result }
+    ensures { Delivers answer.now (sunk_between O.faults O.taken out.old out.new)
+        (sunk_between N.faults N.taken notes.old notes.new) result }
 {
     if !answer.out.is_empty() && out.write(answer.out.as_slice()).is_err() {
         return 4;

@@ -26,11 +26,12 @@ use std::alloc::Global;
 #[derive(Clone, Copy, Debug, PartialEq, Eq)]
 pub struct Status(pub u8);
 
-/// Runs the command that the words name, over files and two sinks. `compile M LEMMAS*` writes to `out` the file of a derivation of
-/// the model in the file M, which the search finds with the lemmas of the other files in their order; `replay M D` writes to `out` the image for the model
-/// in the file M and its derivation in the file D; `code M D` the command that is derived; `run IMAGE ARG*` the results of a
-/// run of the image; `eval M ARG*` the value of the model; `show IMAGE` the listing of the image; `bench SEED COUNT` the line of
-/// a generated model that is compiled and run. A line of `compile`, of `replay` and of `run` goes to `notes` behind that.
+/// Runs the command that the words name, over files and two sinks. `compile M LEMMAS*` writes to `out` the file of a derivation
+/// of the model in the file M, which the search finds with the lemmas of the other files in their order; `replay M D` writes to
+/// `out` the image for the model in the file M and its derivation in the file D; `code M D` the command that is derived; `run
+/// IMAGE ARG*` the results of a run of the image; `eval M ARG*` the value of the model; `show IMAGE` the listing of the image;
+/// `bench SEED COUNT` the line of a generated model that is compiled and run. A line of `compile`, of `replay` and of `run`
+/// goes to `notes` behind that.
 ///
 /// The status is 0 where the command is done, 1 where its input is refused, 2 where the words fit no row of the
 /// command table, 3 where a fetch failed, 4 where a write failed, 5 where memory ran out before the first write, 6
@@ -54,17 +55,21 @@ pub fn top<F: Files, O: Sink, N: Sink>(
     // Ends: an answer of the command's script was delivered, whole or in part, or memory ran out. This speaks of files and
     // sinks as far as they are told; the clauses below follow from it.
     ensures ends { Ends (script_of (command_of (map string_bytes words.now)))
-        (call_with (read_between F.held F.faults F.last files.old files.new) (sunk_between O.faults O.taken out.old out.new) (sunk_between N.faults N.taken notes.old notes.new) result.0) }
+        (call_with (read_between F.held F.faults F.last files.old files.new) (sunk_between O.faults O.taken out.old out.new)
+        (sunk_between N.faults N.taken notes.old notes.new) result.0) }
 
     // Told: where files and sinks are told, the call ends in one of four ways: its outcome, a read fault, a write
     // fault, or want of memory.
     ensures told { IsTold (script_of (command_of (map string_bytes words.now)))
-        (call_with (read_between F.held F.faults F.last files.old files.new) (sunk_between O.faults O.taken out.old out.new) (sunk_between N.faults N.taken notes.old notes.new) result.0) }
+        (call_with (read_between F.held F.faults F.last files.old files.new) (sunk_between O.faults O.taken out.old out.new)
+        (sunk_between N.faults N.taken notes.old notes.new) result.0) }
 
     // Untold: the status is one of eight, and each has its cause.
     ensures status { result.0 ≤ 7 }
-    ensures read_fault { result.0 ≡ 3 → Faulted (script_of (command_of (map string_bytes words.now))) (read_between F.held F.faults F.last files.old files.new) }
-    ensures write_fault { result.0 ≡ 4 → Rose (O.faults out.old) (O.faults out.new) ⊎ Rose (N.faults notes.old) (N.faults notes.new) }
+    ensures read_fault { result.0 ≡ 3
+        → Faulted (script_of (command_of (map string_bytes words.now))) (read_between F.held F.faults F.last files.old files.new) }
+    ensures write_fault { result.0 ≡ 4
+        → Rose (O.faults out.old) (O.faults out.new) ⊎ Rose (N.faults notes.old) (N.faults notes.new) }
     ensures no_memory { result.0 ≡ 5 → (O.taken out.new ≡ O.taken out.old) × (N.taken notes.new ≡ N.taken notes.old) }
 
     // A call that doesn't end with status 0 or 4 leaves `out` as it was.
@@ -73,20 +78,26 @@ pub fn top<F: Files, O: Sink, N: Sink>(
     // The headline: an image is written only where the model and its derivation are accepted, and, unless a count of
     // faults rose or memory ran out, wherever they are.
     ensures writes_only { WritesOnly (command_of (map string_bytes words.now))
-        (call_with (read_between F.held F.faults F.last files.old files.new) (sunk_between O.faults O.taken out.old out.new) (sunk_between N.faults N.taken notes.old notes.new) result.0) }
+        (call_with (read_between F.held F.faults F.last files.old files.new) (sunk_between O.faults O.taken out.old out.new)
+        (sunk_between N.faults N.taken notes.old notes.new) result.0) }
     ensures writes_all { WritesAll (command_of (map string_bytes words.now))
-        (call_with (read_between F.held F.faults F.last files.old files.new) (sunk_between O.faults O.taken out.old out.new) (sunk_between N.faults N.taken notes.old notes.new) result.0) }
+        (call_with (read_between F.held F.faults F.last files.old files.new) (sunk_between O.faults O.taken out.old out.new)
+        (sunk_between N.faults N.taken notes.old notes.new) result.0) }
 
-    // Compiled: what `compile` writes is the file of a derivation that is an instance of the model. The file is read back as that
-    // derivation unless that is too deep, as it never is without lemmas, and the replayer accepts it up to the limits of slots, of the bound and of the size.
+    // Compiled: what `compile` writes is the file of a derivation that is an instance of the model. The file is read back as
+    // that derivation unless that is too deep, as it never is without lemmas, and the replayer accepts it up to the limits of
+    // slots, of the bound and of the size.
     ensures compiled { Compiled (command_of (map string_bytes words.now))
-        (call_with (read_between F.held F.faults F.last files.old files.new) (sunk_between O.faults O.taken out.old out.new) (sunk_between N.faults N.taken notes.old notes.new) result.0) }
+        (call_with (read_between F.held F.faults F.last files.old files.new) (sunk_between O.faults O.taken out.old out.new)
+        (sunk_between N.faults N.taken notes.old notes.new) result.0) }
 
-    // Kept: what the command promises. `run` and `eval` write exactly the lines of the model's results, where files are
-    // told, the arguments meet the model and no count of faults rose, or memory runs out; so `show` writes an image's listing. `bench` writes
-    // its line, with the model's results, where the search finds a derivation that is accepted and its bound is at most 10^9.
+    // Kept: what the command promises. `run` and `eval` write exactly the lines of the model's results, where files are told,
+    // the arguments meet the model and no count of faults rose, or memory runs out; so `show` writes an image's listing.
+    // `bench` writes its line, with the model's results, where the search finds a derivation that is accepted and its bound is
+    // at most 10^9.
     ensures keeps { Promise (command_of (map string_bytes words.now))
-        (call_with (read_between F.held F.faults F.last files.old files.new) (sunk_between O.faults O.taken out.old out.new) (sunk_between N.faults N.taken notes.old notes.new) result.0) }
+        (call_with (read_between F.held F.faults F.last files.old files.new) (sunk_between O.faults O.taken out.old out.new)
+        (sunk_between N.faults N.taken notes.old notes.new) result.0) }
 {
     call(alloc, words, files, out, notes)
 }
@@ -102,7 +113,8 @@ fn call<F: Files, O: Sink, N: Sink>(
     ensures held { F.held files.new ≡ F.held files.old }
     ensures no_fetch { command_of (map string_bytes words.now) ≡ usage_row → files.new ≡ files.old }
     ensures ends { Ends (script_of (command_of (map string_bytes words.now)))
-        (call_with (read_between F.held F.faults F.last files.old files.new) (sunk_between O.faults O.taken out.old out.new) (sunk_between N.faults N.taken notes.old notes.new) result.0) }
+        (call_with (read_between F.held F.faults F.last files.old files.new) (sunk_between O.faults O.taken out.old out.new)
+        (sunk_between N.faults N.taken notes.old notes.new) result.0) }
 {
     match answer_of(alloc, words, files) {
         Ok(answer) => Status(deliver(&answer, out, notes)),
@@ -114,7 +126,8 @@ fn call<F: Files, O: Sink, N: Sink>(
 fn answer_of<F: Files>(alloc: Global, words: &[String], files: &mut F) -> Result<Answer, NoMemory>
     ensures held { F.held files.new ≡ F.held files.old }
     ensures no_fetch { command_of (map string_bytes words.now) ≡ usage_row → files.new ≡ files.old }
-    ensures answers { IfOk result (λ a. Answers (script_of (command_of (map string_bytes words.now))) (read_between F.held F.faults F.last files.old files.new) a) }
+    ensures answers { IfOk result (λ a. Answers (script_of (command_of (map string_bytes words.now)))
+        (read_between F.held F.faults F.last files.old files.new) a) }
 {
     let ended = commanded(alloc, words, files);
     answered(alloc, ended)
@@ -124,7 +137,8 @@ fn answer_of<F: Files>(alloc: Global, words: &[String], files: &mut F) -> Result
 fn commanded<F: Files>(alloc: Global, words: &[String], files: &mut F) -> Result<Answer, Stop>
     ensures held { F.held files.new ≡ F.held files.old }
     ensures no_fetch { command_of (map string_bytes words.now) ≡ usage_row → files.new ≡ files.old }
-    ensures follows { Follows (script_of (command_of (map string_bytes words.now))) (read_between F.held F.faults F.last files.old files.new) result }
+    ensures follows { Follows (script_of (command_of (map string_bytes words.now)))
+        (read_between F.held F.faults F.last files.old files.new) result }
 {
     match request_of(words) {
         Request::Usage => Ok(answers::usage(alloc)?),

@@ -13,7 +13,8 @@ use Rattle.rup_top.specs.commands.Code.{Prints, WritesCode, CodeKeeps, code_scri
 use Rattle.rup_top.proofs.Ends.{Shows}
 use Rattle.rup_top.proofs.shown.Derivations.{proper, came, all_done}
 
-pub prints : (model tree : List ℕ) (m : Model) (checked : Checked) (out note : List ℕ) (a : Answer) → Accepts most_size model tree m checked
+pub prints : (model tree : List ℕ) (m : Model) (checked : Checked) (out note : List ℕ) (a : Answer)
+    → Accepts most_size model tree m checked
     → out ≡ line (cmd_text checked.command.command) → note ≡ [] → a ≡ done out note → Judged Prints most_size model tree a
 prints model tree m checked out note a accepts text_is no_note answer_is =
     let P : Answer → Type 0 = λ x. Judged Prints most_size model tree x in
@@ -25,7 +26,8 @@ prints model tree m checked out note a accepts text_is no_note answer_is =
       answers = record { text_is = text_is; no_note = no_note };
     }))
 
-code_written : (model tree : List ℕ) (call : Call) → Ends (code_script model tree) call → call.status ≡ 0 → WritesCode model tree call
+code_written : (model tree : List ℕ) (call : Call) → Ends (code_script model tree) call → call.status ≡ 0
+    → WritesCode model tree call
 code_written model tree call ends zero =
     let p = came Prints most_size model tree call ends zero in
     let P : List ℕ → Type 0 = λ out. Appends call.out.taken call.out.taken_now out in

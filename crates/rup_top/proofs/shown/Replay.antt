@@ -11,8 +11,10 @@ use Rattle.rup_top.specs.commands.Replay.{Replays, WritesImage, ReplayKeeps, rep
 use Rattle.rup_top.proofs.Ends.{Shows}
 use Rattle.rup_top.proofs.shown.Derivations.{proper, came, all_done}
 
-pub replays : (size : ℕ) (model tree : List ℕ) (m : Model) (checked : Checked) (image note : List ℕ) (a : Answer) → Accepts size model tree m checked
-    → Written m checked.command.command checked.command.bound checked.command.weight image → note ≡ replay_line m checked → a ≡ done image note → Judged Replays size model tree a
+pub replays : (size : ℕ) (model tree : List ℕ) (m : Model) (checked : Checked) (image note : List ℕ) (a : Answer)
+    → Accepts size model tree m checked
+    → Written m checked.command.command checked.command.bound checked.command.weight image → note ≡ replay_line m checked
+    → a ≡ done image note → Judged Replays size model tree a
 replays size model tree m checked image note a accepts written note_is answer_is =
     let P : Answer → Type 0 = λ x. Judged Replays size model tree x in
     subst P (sym answer_is) (inl (record {
@@ -23,12 +25,14 @@ replays size model tree m checked image note a accepts written note_is answer_is
       answers = record { written = written; note_is = note_is };
     }))
 
-image_written : (model tree : List ℕ) (size : ℕ) (call : Call) → Ends (replay_script model tree size) call → call.status ≡ 0 → WritesImage model tree size call
+image_written : (model tree : List ℕ) (size : ℕ) (call : Call) → Ends (replay_script model tree size) call → call.status ≡ 0
+    → WritesImage model tree size call
 image_written model tree size call ends zero =
     let p = came Replays size model tree call ends zero in
     record { accepts = p.files; image = p.answer.out; written = p.answers.written; out_takes = p.out_takes }
 
-pub replay_shows : (model tree : List ℕ) (size : ℕ) → Shows (replay_script model tree size) (λ call. ReplayKeeps model tree size call)
+pub replay_shows : (model tree : List ℕ) (size : ℕ)
+    → Shows (replay_script model tree size) (λ call. ReplayKeeps model tree size call)
 replay_shows model tree size =
     record {
       proper = proper Replays size model tree;

@@ -48,7 +48,8 @@ bound_of seed checked = at (symbol_values (map kind_of params) (arguments seed))
 -- the line up to its results
 abbrev pub summary : ℕ → ℕ → Checked → List ℕ
 summary seed count checked =
-    codes "bench " ++ decimal seed ++ codes " " ++ decimal count ++ codes " nodes " ++ decimal checked.nodes ++ codes " weight " ++ decimal checked.command.weight
+    codes "bench " ++ decimal seed ++ codes " " ++ decimal count ++ codes " nodes " ++ decimal checked.nodes ++ codes " weight "
+    ++ decimal checked.command.weight
     ++ codes " bound " ++ decimal (bound_of seed checked) ++ codes " result"
 
 -- a word behind a space, which is 32; a generated model returns no array

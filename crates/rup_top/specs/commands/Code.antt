@@ -28,5 +28,6 @@ pub record WritesCode (model tree : List ℕ) (call : Call) : Type 0 where
 -- status 0 comes with the text; files that are accepted come to status 0, or memory runs out
 pub record CodeKeeps (model tree : List ℕ) (call : Call) : Type 0 where
   pub writes_only : call.status ≡ 0 → WritesCode model tree call
-  pub writes_all : (held : List (List ℕ × List ℕ)) → call.files.held ≡ Some held → AcceptsFiles most_size call.files.held model tree → IsUndisturbed call
+  pub writes_all : (held : List (List ℕ × List ℕ)) → call.files.held ≡ Some held
+      → AcceptsFiles most_size call.files.held model tree → IsUndisturbed call
       → (call.status ≡ 0) ⊎ (call.status ≡ 5)

@@ -1,4 +1,5 @@
--- `compile M LEMMAS*`: what it asks of the files and answers, the file of the derivation that the search finds with the lemmas, and
+-- `compile M LEMMAS*`: what it asks of the files and answers, the file of
+-- the derivation that the search finds with the lemmas, and
 -- what it promises: that file, of an instance of the model, which `replay` reads back and accepts within its limits.
 use Rattle.std.specs.Prelude.{◌≡◌, ℕ, ◌+◌, ◌≤◌, List, [], ◌∷◌, ◌++◌, length, Some, Result, Ok, Err, ⊤, codes}
 use Rattle.std.specs.Fmt.{decimal}
@@ -34,7 +35,8 @@ abbrev pub lemmas_of : List Lemma → ℕ → List (List ℕ) → Result (List L
 lemmas_of done word [] = Ok done
 lemmas_of done word (bytes ∷ files) = and_then (with_file done word bytes) (λ all. lemmas_of all (word + 1) files)
 
--- The derivation that the search finds for the model of these bytes, with the lemmas of these files, the first of which is that of
+-- The derivation that the search finds for the model of these bytes,
+-- with the lemmas of these files, the first of which is that of
 -- word 2; or the first refusal: the model's, the first one of the files in order, or the search's.
 abbrev pub searched : List ℕ → List (List ℕ) → Result Derivation Refusal
 searched bytes files = and_then (typed_model bytes) (λ m. and_then (lemmas_of [] 2 files) (λ lemmas. derived lemmas turn m))
@@ -50,7 +52,8 @@ compile_answer (Err refusal) = refused refusal
 -- the files of lemmas from a word on, after the model's bytes and those of the files before: all are fetched before any is judged
 abbrev pub lemmas_script : List ℕ → List (List ℕ) → ℕ → List (List ℕ) → Script
 lemmas_script model done place [] = comes_to (λ a. exactly (compile_answer (searched model done)) a)
-lemmas_script model done place (word ∷ words) = asks place word lemma_limit (λ bytes. lemmas_script model (done ++ bytes ∷ []) (place + 1) words)
+lemmas_script model done place (word ∷ words) =
+    asks place word lemma_limit (λ bytes. lemmas_script model (done ++ bytes ∷ []) (place + 1) words)
 
 abbrev pub compile_script : List ℕ → List (List ℕ) → Script
 compile_script model words = asks 1 model model_limit (λ bytes. lemmas_script bytes [] 2 words)
@@ -69,7 +72,8 @@ abbrev pub AcceptedOrOver : {A : Type 0} → Result A Refusal → Type 0
 AcceptedOrOver (Ok accepted) = ⊤
 AcceptedOrOver (Err refusal) = IsOver refusal
 
--- The derivation is an instance of the model; its file is read back as it unless it is too deep, as it never is without lemmas; and
+-- The derivation is an instance of the model; its file is read back as it
+-- unless it is too deep, as it never is without lemmas; and
 -- the replayer accepts it up to the limits of slots, of the bound and of the size.
 pub record IsCompiled (lemmas : List Lemma) (m : Model) (d : Derivation) : Type 0 where
   pub instance : IsInstance lemmas turn m d
@@ -80,7 +84,8 @@ pub record IsCompiled (lemmas : List Lemma) (m : Model) (d : Derivation) : Type 
 -- the words name these files, each within its limit
 abbrev pub HoldsEach : Told → List (List ℕ) → List (List ℕ) → Type 0
 HoldsEach held [] [] = ⊤
-HoldsEach held (word ∷ words) (bytes ∷ files) = Holds held word bytes × ((length bytes ≤ lemma_limit) × HoldsEach held words files)
+HoldsEach held (word ∷ words) (bytes ∷ files) = Holds held word bytes
+    × ((length bytes ≤ lemma_limit) × HoldsEach held words files)
 HoldsEach held words files = ⊥
 
 -- the files are a well typed model and lemmas, within their limits, for which the search finds a derivation
@@ -106,5 +111,6 @@ pub record WritesDerivation (model : List ℕ) (words : List (List ℕ)) (call :
 -- status 0 comes with such a file; where the search finds a derivation, its file is written, or memory runs out
 pub record CompileKeeps (model : List ℕ) (words : List (List ℕ)) (call : Call) : Type 0 where
   pub writes_only : call.status ≡ 0 → WritesDerivation model words call
-  pub writes_all : (held : List (List ℕ × List ℕ)) → call.files.held ≡ Some held → (given : FindsDerivation call.files.held model words) → IsUndisturbed call
+  pub writes_all : (held : List (List ℕ × List ℕ)) → call.files.held ≡ Some held
+      → (given : FindsDerivation call.files.held model words) → IsUndisturbed call
       → Writes (text_of given.d) call

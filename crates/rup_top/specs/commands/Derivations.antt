@@ -37,7 +37,8 @@ pub record NotAccepted (size : ℕ) (model tree : List ℕ) (refusal : Refusal) 
 
 -- the model is refused first, then the derivation's file, then the derivation
 abbrev pub Refuses : ℕ → List ℕ → List ℕ → Refusal → Type 0
-Refuses size model tree refusal = (typed_model model ≡ Err refusal) ⊎ (NoDerivation model tree refusal ⊎ NotAccepted size model tree refusal)
+Refuses size model tree refusal = (typed_model model ≡ Err refusal)
+    ⊎ (NoDerivation model tree refusal ⊎ NotAccepted size model tree refusal)
 
 -- the answer to what was accepted, and else the refusal
 abbrev pub Answering : Type 1
@@ -51,7 +52,8 @@ pub record Done (P : Answering) (size : ℕ) (model tree : List ℕ) (a : Answer
   pub answers : P m checked a
 
 abbrev pub Judged : Answering → ℕ → List ℕ → List ℕ → Answer → Type 0
-Judged P size model tree a = Done P size model tree a ⊎ ((refusal : Refusal) × Refuses size model tree refusal × (a ≡ refused refusal))
+Judged P size model tree a = Done P size model tree a
+    ⊎ ((refusal : Refusal) × Refuses size model tree refusal × (a ≡ refused refusal))
 
 -- both files are fetched before either is judged
 abbrev pub script : Answering → ℕ → List ℕ → List ℕ → Script

@@ -54,5 +54,6 @@ pub record CallsModel (held : Told) (model : List ℕ) (texts : List (List ℕ))
 
 -- the evaluation of a model writes its results
 pub record EvalKeeps (model : List ℕ) (texts : List (List ℕ)) (call : Call) : Type 0 where
-  pub evals_good : (held : List (List ℕ × List ℕ)) → call.files.held ≡ Some held → (given : CallsModel call.files.held model texts) → IsUndisturbed call
+  pub evals_good : (held : List (List ℕ × List ℕ)) → call.files.held ≡ Some held
+      → (given : CallsModel call.files.held model texts) → IsUndisturbed call
       → Writes (lines_of (results given.m given.args)) call

@@ -106,5 +106,6 @@ pub record CallsGood (held : Told) (image : List ℕ) (texts : List (List ℕ)) 
 
 -- the run of an image that is good for a model writes the model's results
 pub record RunKeeps (image : List ℕ) (texts : List (List ℕ)) (call : Call) : Type 0 where
-  pub runs_good : (held : List (List ℕ × List ℕ)) → call.files.held ≡ Some held → (given : CallsGood call.files.held image texts) → IsUndisturbed call
+  pub runs_good : (held : List (List ℕ × List ℕ)) → call.files.held ≡ Some held → (given : CallsGood call.files.held image texts)
+      → IsUndisturbed call
       → Writes (lines_of (results given.m given.args)) call

@@ -26,7 +26,8 @@ symbol_names = map symbol_name symbols
 
 abbrev pub header_line : Image → List ℕ
 header_line i =
-    line (codes "image " ++ decimal i.version ++ codes " entry " ++ decimal i.entry ++ codes " stack " ++ decimal i.stack ++ codes " code " ++ decimal (length i.code)
+    line (codes "image " ++ decimal i.version ++ codes " entry " ++ decimal i.entry ++ codes " stack " ++ decimal i.stack
+    ++ codes " code " ++ decimal (length i.code)
     ++ codes " tables " ++ decimal (length i.tables) ++ codes " bound " ++ bound_text symbol_names i.bound)
 
 -- a number in eight digits, and a byte behind it
@@ -63,4 +64,5 @@ pub record HoldsImage (held : Told) (image : List ℕ) : Type 0 where
 
 -- the listing of an image is written
 pub record ShowKeeps (image : List ℕ) (call : Call) : Type 0 where
-  pub shows_image : (held : List (List ℕ × List ℕ)) → call.files.held ≡ Some held → (given : HoldsImage call.files.held image) → IsUndisturbed call → Writes (listing given.i) call
+  pub shows_image : (held : List (List ℕ × List ℕ)) → call.files.held ≡ Some held → (given : HoldsImage call.files.held image)
+      → IsUndisturbed call → Writes (listing given.i) call

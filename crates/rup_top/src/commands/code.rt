@@ -21,7 +21,8 @@ use std::alloc::Global;
 /// Fetches both files and judges them, as `replay` does at its greatest size.
 pub fn code<F: Files>(alloc: Global, model: &str, tree: &str, files: &mut F) -> Result<Answer, Stop>
     ensures held { F.held files.new ≡ F.held files.old }
-    ensures follows { Follows (spec.code_script model.now tree.now) (read_between F.held F.faults F.last files.old files.new) result }
+    ensures follows { Follows (spec.code_script model.now tree.now) (read_between F.held F.faults F.last files.old files.new)
+        result }
 {
     let model = fetch_word(alloc, 1, model, MODEL_LIMIT, files)?;
     let tree = fetch_word(alloc, 2, tree, TREE_LIMIT, files)?;

@@ -33,7 +33,8 @@ pub fn compile<F: Files>(
 ) -> Result<Answer, Stop>
     requires { length words.now ≤ 16 }
     ensures held { F.held files.new ≡ F.held files.old }
-    ensures follows { Follows (spec.compile_script model.now (map string_bytes words.now)) (read_between F.held F.faults F.last files.old files.new) result }
+    ensures follows { Follows (spec.compile_script model.now (map string_bytes words.now))
+        (read_between F.held F.faults F.last files.old files.new) result }
 {
     let bytes = fetch_word(alloc, 1, model, MODEL_LIMIT, files)?;
     let mut lemma_files = List::new(alloc);
@@ -55,7 +56,8 @@ fn with_lemmas<F: Files>(
     requires few { length done.old + length words.now ≤ 16 }
     requires places { place + length words.now ≤ 18 }
     ensures held { F.held files.new ≡ F.held files.old }
-    ensures follows { Follows (spec.lemmas_script model.now done.old place (map string_bytes words.now)) (read_between F.held F.faults F.last files.old files.new) result }
+    ensures follows { Follows (spec.lemmas_script model.now done.old place (map string_bytes words.now))
+        (read_between F.held F.faults F.last files.old files.new) result }
 {
     match words {
         [] => compile_bytes(alloc, model, done.as_slice()),
@@ -79,7 +81,8 @@ fn with_next<F: Files>(
     requires few { length done.old + length rest.now < 16 }
     requires places { place + length rest.now < 18 }
     ensures held { F.held files.new ≡ F.held files.old }
-    ensures follows { Follows (spec.lemmas_script model.now done.old place (word.now ∷ map string_bytes rest.now)) (read_between F.held F.faults F.last files.old files.new) result }
+    ensures follows { Follows (spec.lemmas_script model.now done.old place (word.now ∷ map string_bytes rest.now))
+        (read_between F.held F.faults F.last files.old files.new) result }
 {
     let bytes = fetch_word(alloc, place, word, LEMMA_LIMIT, files)?;
     done.push(bytes)?;

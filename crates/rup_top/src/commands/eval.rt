@@ -29,7 +29,8 @@ pub fn eval<F: Files>(
 ) -> Result<Answer, Stop>
     requires { 2 ≤ length words.now }
     ensures held { F.held files.new ≡ F.held files.old }
-    ensures follows { Follows (spec.eval_script model.now (drop 2 (map string_bytes words.now))) (read_between F.held F.faults F.last files.old files.new) result }
+    ensures follows { Follows (spec.eval_script model.now (drop 2 (map string_bytes words.now)))
+        (read_between F.held F.faults F.last files.old files.new) result }
 {
     let bytes = fetch_word(alloc, 1, model, MODEL_LIMIT, files)?;
     eval_bytes(alloc, bytes.as_slice(), words, files)
@@ -45,7 +46,8 @@ fn eval_bytes<F: Files>(
     requires places { 2 ≤ length words.now }
     requires small { length bytes.now ≤ model_limit }
     ensures held { F.held files.new ≡ F.held files.old }
-    ensures follows { Follows (spec.model_script (drop 2 (map string_bytes words.now)) (typed_model_of bytes.now)) (read_between F.held F.faults F.last files.old files.new) result }
+    ensures follows { Follows (spec.model_script (drop 2 (map string_bytes words.now)) (typed_model_of bytes.now))
+        (read_between F.held F.faults F.last files.old files.new) result }
 {
     let typed = typed_model(alloc, bytes)?;
     eval_model(alloc, &typed, words, files)
@@ -60,7 +62,8 @@ fn eval_model<F: Files>(
 ) -> Result<Answer, Stop>
     requires { 2 ≤ length words.now }
     ensures held { F.held files.new ≡ F.held files.old }
-    ensures follows { Follows (spec.model_script (drop 2 (map string_bytes words.now)) (Ok typed.now.inner)) (read_between F.held F.faults F.last files.old files.new) result }
+    ensures follows { Follows (spec.model_script (drop 2 (map string_bytes words.now)) (Ok typed.now.inner))
+        (read_between F.held F.faults F.last files.old files.new) result }
 {
     let kinds = typed.kinds(alloc)?;
     let args = take_args(alloc, FIRST, kinds.as_slice(), words, files)?;

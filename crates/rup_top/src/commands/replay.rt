@@ -30,7 +30,8 @@ pub fn replay<F: Files>(
 ) -> Result<Answer, Stop>
     requires { size ≤ most_size }
     ensures held { F.held files.new ≡ F.held files.old }
-    ensures follows { Follows (spec.replay_script model.now tree.now size) (read_between F.held F.faults F.last files.old files.new) result }
+    ensures follows { Follows (spec.replay_script model.now tree.now size)
+        (read_between F.held F.faults F.last files.old files.new) result }
 {
     let model = fetch_word(alloc, 1, model, MODEL_LIMIT, files)?;
     let tree = fetch_word(alloc, 2, tree, TREE_LIMIT, files)?;

@@ -37,7 +37,8 @@ pub fn run<F: Files>(
 ) -> Result<Answer, Stop>
     requires { 2 ≤ length words.now }
     ensures held { F.held files.new ≡ F.held files.old }
-    ensures follows { Follows (spec.run_script image.now (drop 2 (map string_bytes words.now))) (read_between F.held F.faults F.last files.old files.new) result }
+    ensures follows { Follows (spec.run_script image.now (drop 2 (map string_bytes words.now)))
+        (read_between F.held F.faults F.last files.old files.new) result }
 {
     let bytes = fetch_word(alloc, 1, image, IMAGE_LIMIT, files)?;
     run_bytes(alloc, bytes.as_slice(), words, files)
@@ -52,7 +53,8 @@ fn run_bytes<F: Files>(
 ) -> Result<Answer, Stop>
     requires { 2 ≤ length words.now }
     ensures held { F.held files.new ≡ F.held files.old }
-    ensures follows { Follows (spec.image_script (drop 2 (map string_bytes words.now)) (read bytes.now)) (read_between F.held F.faults F.last files.old files.new) result }
+    ensures follows { Follows (spec.image_script (drop 2 (map string_bytes words.now)) (read bytes.now))
+        (read_between F.held F.faults F.last files.old files.new) result }
 {
     let image = read_image(alloc, bytes)?;
     run_image(alloc, &image, words, files)
@@ -68,7 +70,8 @@ fn run_image<F: Files>(
     requires places { 2 ≤ length words.now }
     requires limits { IsWithinLimits image.now }
     ensures held { F.held files.new ≡ F.held files.old }
-    ensures follows { Follows (spec.image_script (drop 2 (map string_bytes words.now)) (Ok image.now)) (read_between F.held F.faults F.last files.old files.new) result }
+    ensures follows { Follows (spec.image_script (drop 2 (map string_bytes words.now)) (Ok image.now))
+        (read_between F.held F.faults F.last files.old files.new) result }
 {
     let args = take_args(alloc, FIRST, image.params.as_slice(), words, files)?;
     run_on(alloc, image, &args)

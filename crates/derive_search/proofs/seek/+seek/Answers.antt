@@ -1,7 +1,8 @@
 use Rattle.std.proofs.Common.{rules, ◌≡◌, sym, ◌-◌, true, [], ◌∷◌, Some, is_some}
 use Rattle.sym_heap.specs.Context.{own}
 use Rattle.derive_search.specs.Guide.{guided}
-use Rattle.derive_search.specs.Lemmas.{most_steps, rewriting}
+use Rattle.lemma_files.specs.Lemmas.{most_steps}
+use Rattle.derive_search.specs.Lemmas.{rewriting}
 use Rattle.derive_search.specs.Rows.{element}
 use Rattle.derive_search.specs.Expressions as spec
 use Rattle.derive_search.proofs.Goals.{goal_again}

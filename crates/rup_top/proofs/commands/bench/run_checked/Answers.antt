@@ -11,15 +11,19 @@ image_of-requires c =
 
 pub run_on-requires-clause-judged : goal.run_on-requires-clause-judged
 run_on-requires-clause-judged c =
-    read_called c.args.seed c.args.count c.args.checked.now c.args.typed.now.inner c.in_ok-bytes.bytes c.as_slice.result.now c.in_ok-image.image c.in_ok-args.args (omega (arith, c.ranges.seed))
+    read_called c.args.seed c.args.count c.args.checked.now c.args.typed.now.inner c.in_ok-bytes.bytes c.as_slice.result.now
+    c.in_ok-image.image c.in_ok-args.args (omega (arith, c.ranges.seed))
     c.requires.model c.in_ok-bytes.ensures.written c.as_slice.ensures c.in_ok-image.ensures.read c.in_ok-args.ensures
 
 pub run_on-requires-clause-bound : goal.run_on-requires-clause-bound
 run_on-requires-clause-bound c =
-    read_bound c.args.seed c.args.count c.args.checked.now c.args.typed.now.inner c.in_ok-bytes.bytes c.as_slice.result.now c.in_ok-image.image c.in_ok-args.args c.requires.model
+    read_bound c.args.seed c.args.count c.args.checked.now c.args.typed.now.inner c.in_ok-bytes.bytes c.as_slice.result.now
+    c.in_ok-image.image c.in_ok-args.args c.requires.model
     c.in_ok-bytes.ensures.written c.as_slice.ensures c.in_ok-image.ensures.read c.in_ok-args.ensures
 
 pub returns : goal.returns
 returns c =
-    read_benches c.args.seed c.args.count c.args.checked.now c.args.typed.now.inner c.in_ok-bytes.bytes c.as_slice.result.now c.in_ok-image.image c.in_ok-args.args c.run_on.result
-    (omega (arith, c.ranges.seed)) c.requires.model c.in_ok-bytes.ensures.written c.as_slice.ensures c.in_ok-image.ensures.read c.in_ok-args.ensures c.run_on.ensures
+    read_benches c.args.seed c.args.count c.args.checked.now c.args.typed.now.inner c.in_ok-bytes.bytes c.as_slice.result.now
+    c.in_ok-image.image c.in_ok-args.args c.run_on.result
+    (omega (arith, c.ranges.seed)) c.requires.model c.in_ok-bytes.ensures.written c.as_slice.ensures c.in_ok-image.ensures.read
+    c.in_ok-args.ensures c.run_on.ensures

@@ -8,10 +8,14 @@ use Rattle.rup_top.proofs.commands.eval.eval.Goals as goal
 pub returns-in_err-bytes-clause-follows : goal.returns-in_err-bytes-clause-follows
 returns-in_err-bytes-clause-follows g c =
     let p = err_from_is_err_and c.from_residual.result c.from_residual.ensures.1 in
-    rw (p.1, p.2) (fetch_breaks _ _ _ (λ bytes. model_script (drop 2 (map (string_bytes {Z = Global}) c.args.words.now)) (typed_model bytes)) _ c.in_err-bytes.field-0.0 c.in_err-bytes.ensures.err)
+    rw (p.1, p.2) (fetch_breaks _ _ _
+    (λ bytes. model_script (drop 2 (map (string_bytes {Z = Global}) c.args.words.now)) (typed_model bytes)) _
+    c.in_err-bytes.field-0.0 c.in_err-bytes.ensures.err)
 
 pub returns-clause-follows : goal.returns-clause-follows
 returns-clause-follows g c =
     gives_with _ _ c.eval_bytes.result
-    (λ a p. then_next _ _ _ (λ bytes. model_script (drop 2 (map (string_bytes {Z = Global}) c.args.words.now)) (typed_model bytes)) _ _ _ _ _ _ _ _ a c.in_ok-bytes.bytes c.as_slice.result.now c.as_slice.ensures c.fetch_word.ensures.held c.in_ok-bytes.ensures.ok p)
+    (λ a p. then_next _ _ _ (λ bytes. model_script (drop 2 (map (string_bytes {Z = Global}) c.args.words.now))
+    (typed_model bytes)) _ _ _ _ _ _ _ _ a c.in_ok-bytes.bytes c.as_slice.result.now c.as_slice.ensures
+    c.fetch_word.ensures.held c.in_ok-bytes.ensures.ok p)
     c.eval_bytes.ensures.follows

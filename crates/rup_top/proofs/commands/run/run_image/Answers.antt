@@ -9,7 +9,9 @@ use Rattle.rup_top.proofs.commands.run.run_image.Goals as goal
 pub returns-in_err-args-clause-follows : goal.returns-in_err-args-clause-follows
 returns-in_err-args-clause-follows g c =
     let p = err_from_is_err_and c.from_residual.result c.from_residual.ensures.1 in
-    rw (p.1, p.2) (arguments_break _ _ _ _ (λ args a. RunsFrom c.args.image.now args (loaded c.args.image.now args) a) _ c.in_err-args.field-0.0 c.as_slice.ensures c.in_err-args.ensures.err)
+    rw (p.1, p.2) (arguments_break _ _ _ _ (λ args a. RunsFrom c.args.image.now args (loaded c.args.image.now args) a) _
+    c.in_err-args.field-0.0 c.as_slice.ensures c.in_err-args.ensures.err)
 
 pub take_args-requires-clause-places : goal.take_args-requires-clause-places
-take_args-requires-clause-places g c = let count = ap length c.as_slice.ensures in omega (arith, count, params_most c.args.image.now c.requires.limits)
+take_args-requires-clause-places g c = let count = ap length c.as_slice.ensures in
+    omega (arith, count, params_most c.args.image.now c.requires.limits)

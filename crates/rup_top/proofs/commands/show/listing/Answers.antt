@@ -8,4 +8,11 @@ code_offset-offset-requires c = lists_small c.args.image.now c.requires
 pub put_words-requires : goal.put_words-requires
 put_words-requires c =
     let size = ap length c.as_slice.ensures in
-    omega (arith, size, c.code_offset-offset.ensures, c.requires.entry_from, entry_small c.args.image.now c.requires, c.requires.code_most)
+    omega (
+      arith,
+      size,
+      c.code_offset-offset.ensures,
+      c.requires.entry_from,
+      entry_small c.args.image.now c.requires,
+      c.requires.code_most,
+    )

@@ -1,10 +1,11 @@
 #!/usr/bin/env bash
 # Runs each example on the proved program, which examples/build.sh builds where it has to: a model with a derivation is
-# replayed, and its image is run on the arguments of each case; every model is evaluated on them. Every model is compiled too:
-# where the search finds a derivation, its image is run on each case, and else the line says where it is stuck. A line of
-# `cases` is arguments, ` = `, and the results that are wanted. Where the command's text and the image stand in the folder, they
-# are what `code` and `replay` write. A folder may have a script `check` of its own, which gets the program's path; where it
-# ends with status 77, its tools aren't there, and it counts as passed.
+# replayed, and its image is run on the arguments of each case; every model is evaluated on them. Every model is compiled too,
+# with the lemmas of NAME.lemmas where they stand in its folder: where the search finds a derivation, its image is run on each
+# case, and else the line says where it is stuck. A line of `cases` is arguments, ` = `, and the results that are wanted. Where
+# the command's text and the image stand in the folder, they are what `code` and `replay` write. A folder may have a script
+# `check` of its own, which gets the program's path; where it ends with status 77, its tools aren't there, and it counts as
+# passed.
 set -euo pipefail
 top="$(cd "$(dirname "$0")/.." && pwd)"
 rup="$top/crates/rup/out/rup"
@@ -36,7 +37,9 @@ for folder in "$top"/examples/*/; do
   derivation="$folder$name.deriv"
   found="$work/found"
   if [ -e "$model" ]; then
-    note="$("$rup" compile "$model" 2>&1 >"$found.deriv")" || true
+    lemmas=()
+    if [ -e "$folder$name.lemmas" ]; then lemmas=("$folder$name.lemmas"); fi
+    note="$("$rup" compile "$model" ${lemmas[@]+"${lemmas[@]}"} 2>&1 >"$found.deriv")" || true
     echo "$name: compile: ${note#compile: }"
     rm -f "$found.image"
     if [ -s "$found.deriv" ]; then

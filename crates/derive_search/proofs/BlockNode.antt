@@ -10,7 +10,8 @@ use Rattle.deriv_tree.specs.declared.tree.Block.{fold-roll-Block}
 use Rattle.stmt_rules.specs.Row.{StmtJudged, BlockJudged, block_step, judged_step, judged, block_judged}
 use Rattle.derive_search.specs.Nodes.{block}
 
-pub judged_is : (turn : Turn) (ns : List StmtNode) → block_judged turn (block ns) ≡ block_step (record { nodes = map (judged turn) ns })
+pub judged_is : (turn : Turn) (ns : List StmtNode)
+    → block_judged turn (block ns) ≡ block_step (record { nodes = map (judged turn) ns })
 judged_is turn ns = fold-roll-Block BlockJudged StmtJudged block_step (judged_step turn) (record { nodes = ns })
 
 module _ (ns : List StmtNode) where

@@ -8,14 +8,20 @@ use Rattle.model_syntax.specs.declared.stmt.Stmt.{Stmt, Stmt-F, out-Stmt, map-St
 use Rattle.model_syntax.specs.declared.stmt.Stmt.TheFolds.{fold_out-Stmt}
 use Rattle.model_syntax.specs.Limits as limits
 
-pub expr_depth_is : (x : Expr) (shape : Expr-F Expr) → out-Expr x ≡ shape → limits.expr_depth x ≡ limits.expr_depth_step (map-Expr Expr ℕ limits.expr_depth shape)
-expr_depth_is x shape is = fold_out-Expr ℕ limits.expr_depth_step x ∙ ap (λ (s : Expr-F Expr). limits.expr_depth_step (map-Expr Expr ℕ limits.expr_depth s)) is
+pub expr_depth_is : (x : Expr) (shape : Expr-F Expr) → out-Expr x ≡ shape
+    → limits.expr_depth x ≡ limits.expr_depth_step (map-Expr Expr ℕ limits.expr_depth shape)
+expr_depth_is x shape is = fold_out-Expr ℕ limits.expr_depth_step x
+    ∙ ap (λ (s : Expr-F Expr). limits.expr_depth_step (map-Expr Expr ℕ limits.expr_depth s)) is
 
-pub stmt_depth_is : (z : Stmt) (shape : Stmt-F Stmt) → out-Stmt z ≡ shape → limits.stmt_depth z ≡ limits.stmt_depth_step (map-Stmt Stmt ℕ limits.stmt_depth shape)
-stmt_depth_is z shape is = fold_out-Stmt ℕ limits.stmt_depth_step z ∙ ap (λ (s : Stmt-F Stmt). limits.stmt_depth_step (map-Stmt Stmt ℕ limits.stmt_depth s)) is
+pub stmt_depth_is : (z : Stmt) (shape : Stmt-F Stmt) → out-Stmt z ≡ shape
+    → limits.stmt_depth z ≡ limits.stmt_depth_step (map-Stmt Stmt ℕ limits.stmt_depth shape)
+stmt_depth_is z shape is = fold_out-Stmt ℕ limits.stmt_depth_step z
+    ∙ ap (λ (s : Stmt-F Stmt). limits.stmt_depth_step (map-Stmt Stmt ℕ limits.stmt_depth s)) is
 
-pub stmt_blocks_is : (z : Stmt) (shape : Stmt-F Stmt) → out-Stmt z ≡ shape → limits.stmt_blocks z ≡ limits.stmt_blocks_step (map-Stmt Stmt ℕ limits.stmt_blocks shape)
-stmt_blocks_is z shape is = fold_out-Stmt ℕ limits.stmt_blocks_step z ∙ ap (λ (s : Stmt-F Stmt). limits.stmt_blocks_step (map-Stmt Stmt ℕ limits.stmt_blocks s)) is
+pub stmt_blocks_is : (z : Stmt) (shape : Stmt-F Stmt) → out-Stmt z ≡ shape
+    → limits.stmt_blocks z ≡ limits.stmt_blocks_step (map-Stmt Stmt ℕ limits.stmt_blocks shape)
+stmt_blocks_is z shape is = fold_out-Stmt ℕ limits.stmt_blocks_step z
+    ∙ ap (λ (s : Stmt-F Stmt). limits.stmt_blocks_step (map-Stmt Stmt ℕ limits.stmt_blocks s)) is
 
 pub one_top : (a p : ℕ) → a ≤ p → greatest (a ∷ []) ≤ p
 one_top a p h = max-le h (omega arith)

@@ -1,5 +1,6 @@
 -- Rows that fit: what is chosen is legal at the expression, and its rule gives what was kept of it.
-use Rattle.std.proofs.Common.{◌≡◌, refl, ℕ, true, false, ◌==◌, List, [], ◌∷◌, Option, Some, None, option_and_then, Result, Ok, Err}
+use Rattle.std.proofs.Common.{◌≡◌, refl, ℕ, true, false, ◌==◌, List, [], ◌∷◌, Option, Some, None, option_and_then, Result, Ok}
+use Rattle.std.proofs.Common.{Err}
 use Rattle.std.specs.Option.{option_or}
 use Rattle.rup_base.specs.declared.refusal.Refusal.{Refusal}
 use Rattle.model_syntax.specs.declared.expr.Expr.{Expr, Expr-F}
@@ -43,7 +44,8 @@ module _ (shape : Expr-F Expr) (n : ℕ) (last : Last) (c : Context) where
   pub fits_plainly : (rule : deriv.Rule) → Legal shape n rule [] → Fits shape n last c (plainly rule (last rule []) c)
   fits_plainly rule is = fits_kept rule [] is (last rule [] c) refl
 
-  fits_shown : (rule : deriv.Rule) → ((k : Cert) → Legal shape n rule (k ∷ [])) → (o : Option Cert) → Fits shape n last c (shown_by rule (last rule) o c)
+  fits_shown : (rule : deriv.Rule) → ((k : Cert) → Legal shape n rule (k ∷ [])) → (o : Option Cert)
+      → Fits shape n last c (shown_by rule (last rule) o c)
   fits_shown rule is None = tt
   fits_shown rule is (Some k) = fits_kept rule (k ∷ []) (is k) (last rule (k ∷ []) c) refl
 
@@ -51,12 +53,14 @@ module _ (shape : Expr-F Expr) (n : ℕ) (last : Last) (c : Context) where
       → Fits shape n last c (certified rule goal (last rule) c)
   fits_certified rule goal is = fits_shown rule is (option_and_then (certificate c) goal)
 
-  pub fits_or : (one two : Option (Chosen × Context)) → Fits shape n last c one → Fits shape n last c two → Fits shape n last c (option_or one two)
+  pub fits_or : (one two : Option (Chosen × Context)) → Fits shape n last c one → Fits shape n last c two
+      → Fits shape n last c (option_or one two)
   fits_or None two a b = b
   fits_or (Some p) two a b = a
 
   pub fits_one : (t : Candidate) → Fits shape n last c (t c) → Fits shape n last c (first (t ∷ []) c)
   fits_one t a = fits_or (t c) None a tt
 
-  pub fits_two : (t u : Candidate) → Fits shape n last c (t c) → Fits shape n last c (u c) → Fits shape n last c (first (t ∷ u ∷ []) c)
+  pub fits_two : (t u : Candidate) → Fits shape n last c (t c) → Fits shape n last c (u c)
+      → Fits shape n last c (first (t ∷ u ∷ []) c)
   fits_two t u a b = fits_or (t c) (first (u ∷ []) c) a (fits_one u b)

@@ -8,7 +8,8 @@ use Rattle.derive_search.specs.Lemmas.{rewriting}
 use Rattle.derive_search.specs.Expressions.{goal_of, by_lemma}
 
 pub goal_again : (g : Guide) (deep stmt above : ℕ) (e : Expr) (s : Seeker) → (deep ≡ 0 → ⊥)
-    → goal_of g deep stmt above e s ≡ by_lemma g.turn (goal_of g (deep - 1) stmt) stmt above e (rewriting g.turn (most_steps - above) e g.lemmas) s
+    → goal_of g deep stmt above e s
+    ≡ by_lemma g.turn (goal_of g (deep - 1) stmt) stmt above e (rewriting g.turn (most_steps - above) e g.lemmas) s
 goal_again g zero stmt above e s positive = absurd (positive refl)
 goal_again g (suc d) stmt above e s positive =
     let same : d ≡ suc d - 1 = omega arith in

@@ -1,3 +1,4 @@
+mod Adding
 mod BlockNode
 mod Blocks
 mod Depth
@@ -7,6 +8,8 @@ mod Goals
 mod Inside
 mod Least
 mod Multiples
+mod NoteLaw
+mod Opened
 mod Shown
 mod Stands
 mod Starting

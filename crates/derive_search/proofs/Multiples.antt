@@ -20,7 +20,8 @@ module _ (at : ℕ) (p q : ExprOut) (c : Context) (goal form : LinearForm) (cert
       → closes c.facts c.tops goal cert ≡ true → within (times k p.form) ≡ Some form
       → special at op.Mul p q c ≡ Some (offered op.Mul p q (record { rule = EMulk; certs = cert ∷ []; form = form }) c)
   product_fits k number goal_is cert_is closed form_is =
-      let row : mulk.after (cert ∷ []) at p q c ≡ Ok (plain (b.Bin bop.Mul p.code q.code) form, c) = rw (number, goal_is, closed, form_is) refl in
+      let row : mulk.after (cert ∷ []) at p q c ≡ Ok (plain (b.Bin bop.Mul p.code q.code) form, c) =
+      rw (number, goal_is, closed, form_is) refl in
       let first : option_and_then (certificate c) (product_goal p q) ≡ Some cert = rw (number, goal_is) cert_is in
       ap (λ (o : Option Cert). shown_by EMulk (λ certs. mulk.after certs at p q) o c) first ∙ ap (kept EMulk (cert ∷ [])) row
 
@@ -28,6 +29,7 @@ module _ (at : ℕ) (p q : ExprOut) (c : Context) (goal form : LinearForm) (cert
       → closes c.facts c.tops goal cert ≡ true → within (times (pos n) p.form) ≡ Some form
       → special at op.Shl p q c ≡ Some (offered op.Shl p q (record { rule = EShift; certs = cert ∷ []; form = form }) c)
   shift_fits n number goal_is cert_is closed form_is =
-      let row : shift.after (cert ∷ []) at p q c ≡ Ok (plain (b.Bin bop.Slu p.code q.code) form, c) = rw (number, goal_is, closed, form_is) refl in
+      let row : shift.after (cert ∷ []) at p q c ≡ Ok (plain (b.Bin bop.Slu p.code q.code) form, c) =
+      rw (number, goal_is, closed, form_is) refl in
       let first : option_and_then (certificate c) (shift_goal p q) ≡ Some cert = rw (number, goal_is) cert_is in
       ap (λ (o : Option Cert). shown_by EShift (λ certs. shift.after certs at p q) o c) first ∙ ap (kept EShift (cert ∷ [])) row

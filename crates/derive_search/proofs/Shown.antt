@@ -1,5 +1,6 @@
 -- The certificates of kept facts, one fact further; and a certificate that is found closes its goal.
-use Rattle.std.proofs.Common.{◌≡◌, refl, ap, arith, ℕ, ◌-◌, Bool, true, false, if◌then◌else◌, List, [], ◌∷◌, ◌++◌, Option, Some, None, ℤ, pos, neg_ℤ, ◌≤ℤ◌, append_assoc, is_ok, is_some}
+use Rattle.std.proofs.Common.{◌≡◌, refl, ap, arith, ℕ, ◌-◌, Bool, true, false, if◌then◌else◌, List, [], ◌∷◌, ◌++◌, Option, Some}
+use Rattle.std.proofs.Common.{None, ℤ, pos, neg_ℤ, ◌≤ℤ◌, append_assoc, is_ok, is_some}
 use Rattle.std.specs.Ordering.{int_eq}
 use Rattle.std.specs.Int.Signed.{le_z}
 use Rattle.std.proofs.lemmas.Int.{ints}
@@ -8,7 +9,8 @@ use Rattle.model_syntax.specs.declared.stmt.Le.{Le}
 use Rattle.side_certs.specs.LinearForm.{LinearForm}
 use Rattle.side_certs.specs.declared.certificate.Cert.{Cert}
 use Rattle.side_certs.specs.declared.certificate.Entry.{Entry}
-use Rattle.side_certs.specs.Closes.{named, left, number_at, Closes, cancels, cancels_in, cancels_all, rest_of, leaves_number, closes}
+use Rattle.side_certs.specs.Closes.{named, left, number_at, Closes, cancels, cancels_in, cancels_all, rest_of, leaves_number}
+use Rattle.side_certs.specs.Closes.{closes}
 use Rattle.side_certs.proofs.laws.Terms.{both, and_parts}
 use Rattle.cert_search.specs.Search.{found}
 use Rattle.cert_search.proofs.laws.Found.{found_closes}
@@ -32,7 +34,8 @@ pub narrow_left : (r : Le) (rs : List Le) → all_narrow (r ∷ rs) ≡ true →
 narrow_left r rs e = (and_parts (is_narrow r) (all_narrow rs) e).1
 
 -- one certificate further
-pub led_on : (done : List Cert) (k : Cert) (certs : Option (List Cert)) → after_those (done ++ k ∷ []) certs ≡ after_those done (led (Some k) certs)
+pub led_on : (done : List Cert) (k : Cert) (certs : Option (List Cert))
+    → after_those (done ++ k ∷ []) certs ≡ after_those done (led (Some k) certs)
 led_on done k None = refl
 led_on done k (Some ks) = ap (λ (all : List Cert). Some all) (append_assoc done (k ∷ []) ks)
 
@@ -45,9 +48,11 @@ cancels_where : (rest : ℕ → ℤ) → ((s : ℕ) → rest s ≡ pos 0) → (t
 cancels_where rest zeros [] = refl
 cancels_where rest zeros (t ∷ ts) = both (zero_is (rest t.0) (zeros t.0)) (cancels_where rest zeros ts)
 
-cancels_all_where : (rest : ℕ → ℤ) → ((s : ℕ) → rest s ≡ pos 0) → (facts : List LinearForm) (tops : List ℕ) (es : List Entry) → cancels_all rest facts tops es ≡ true
+cancels_all_where : (rest : ℕ → ℤ) → ((s : ℕ) → rest s ≡ pos 0) → (facts : List LinearForm) (tops : List ℕ) (es : List Entry)
+    → cancels_all rest facts tops es ≡ true
 cancels_all_where rest zeros facts tops [] = refl
-cancels_all_where rest zeros facts tops (e ∷ es) = both (by_form (named facts tops e)) (cancels_all_where rest zeros facts tops es)
+cancels_all_where rest zeros facts tops (e ∷ es) =
+    both (by_form (named facts tops e)) (cancels_all_where rest zeros facts tops es)
   where
     by_form : (o : Option LinearForm) → cancels_in rest o ≡ true
     by_form None = refl
@@ -60,14 +65,18 @@ at_most a b less = by_test (le_z a b) refl
     by_test true e = e
     by_test false e = absurd (omega (arith, ints, less, e))
 
-closes_made : (facts : List LinearForm) (tops : List ℕ) (goal : LinearForm) (cert : Cert) → Closes facts tops goal cert → closes facts tops goal cert ≡ true
+closes_made : (facts : List LinearForm) (tops : List ℕ) (goal : LinearForm) (cert : Cert) → Closes facts tops goal cert
+    → closes facts tops goal cert ≡ true
 closes_made facts tops goal cert c =
     let leaves : leaves_number facts tops goal cert ≡ true =
-    both (cancels_where (rest_of facts tops goal cert) c.number goal.terms) (cancels_all_where (rest_of facts tops goal cert) c.number facts tops cert.entries) in
-    both (both (both c.range c.names) leaves) (at_most (neg_ℤ (pos (cert.d - 1))) (left (number_at None) facts tops goal cert) c.enough)
+    both (cancels_where (rest_of facts tops goal cert) c.number goal.terms)
+    (cancels_all_where (rest_of facts tops goal cert) c.number facts tops cert.entries) in
+    both (both (both c.range c.names) leaves)
+    (at_most (neg_ℤ (pos (cert.d - 1))) (left (number_at None) facts tops goal cert) c.enough)
 
 -- a certificate that a goal gets in a context closes it there
-pub certificate_closes : (c : Context) (goal : LinearForm) (k : Cert) → certificate c goal ≡ Some k → closes c.facts c.tops goal k ≡ true
+pub certificate_closes : (c : Context) (goal : LinearForm) (k : Cert) → certificate c goal ≡ Some k
+    → closes c.facts c.tops goal k ≡ true
 certificate_closes c goal k = by (has_few_facts c)
   where
     by : (few : Bool) → (if few then found c.facts c.tops goal else None) ≡ Some k → closes c.facts c.tops goal k ≡ true

@@ -30,7 +30,9 @@ answers_within (Err (Refused refusal)) after t r is = ap (with_context t) is
 answers_within (Err NoMemory) after t r is = tt
 
 -- a condition, goals, and then a step in the context
-pub where_step : {A B : Type 0} (test : Context → Bool) (refusal : Refusal) (m : Seek A) (rule : A → Rule B) (s t : Seeker) (a : A) (result : Result B Fail) (after : Context)
+pub where_step : {A B : Type 0} (test : Context → Bool) (refusal : Refusal) (m : Seek A) (rule : A → Rule B) (s t : Seeker)
+    (a : A) (result : Result B Fail) (after : Context)
     → test s.ctx ≡ true → m s ≡ Ok (a, t) → AnswersWith result after (rule a t.ctx)
     → AnswersWith result (record t { ctx = after }) (where_holds test refusal (m >>= (λ x. in_context (rule x))) s)
-where_step test refusal m rule s t a result after there derived is = rw (there, derived) (answers_within result after t (rule a t.ctx) is)
+where_step test refusal m rule s t a result after there derived is =
+    rw (there, derived) (answers_within result after t (rule a t.ctx) is)

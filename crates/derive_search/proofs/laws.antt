@@ -4,5 +4,6 @@ pub mod Files
 pub mod ElementLocals
 pub mod Found
 pub mod Kept
+pub mod Notes
 pub mod Trips
 pub mod Walking

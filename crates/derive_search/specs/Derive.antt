@@ -1,4 +1,5 @@
--- The derivation that the search gives a model, with lemmas and a book of equations: its statements in order from the context at the
+-- The derivation that the search gives a model, with lemmas and a book of
+-- equations: its statements in order from the context at the
 -- start, and then what is asked of the end.
 use Rattle.std.specs.Prelude.{ℕ, ◌&&◌, Bool, true, false, List, [], ◌∷◌, Result, Ok, Err, if◌then◌else◌}
 use Rattle.std.specs.List.{list_all}

@@ -101,14 +101,17 @@ parts next refusal at (e.Tab t ns i) = in_table next refusal at t ns i
 abbrev pub with_row : (Expr → Seek Found) → ℕ → Expr → Seek Found
 with_row next stmt e = enter (λ at. parts next (stuck stmt e) at (out-Expr e))
 
--- a goal directly inside so many nodes of the rule of equations, with the steps by which a lemma rewrites it, if one does: they lead
+-- a goal directly inside so many nodes of the rule of equations, with the
+-- steps by which a lemma rewrites it, if one does: they lead
 -- to a new goal; else the goals of its kids and its own row
 abbrev pub by_lemma : Turn → (ℕ → Expr → Seek Found) → ℕ → ℕ → Expr → Option (List ℕ) → Seek Found
 by_lemma turn next stmt above e None = with_row (next 0) stmt e
 by_lemma turn next stmt above e (Some steps) = by_steps turn (stuck stmt) (next (above + length steps)) steps e
 
--- The goal of an expression in a statement of this number, directly inside so many nodes of the rule of equations. The level counts
--- the goals with a row of their own and the lemmas that may be taken inside one another; with as many as there are nodes it is never
+-- The goal of an expression in a statement of this number, directly
+-- inside so many nodes of the rule of equations. The level counts
+-- the goals with a row of their own and the lemmas that may be taken
+-- inside one another; with as many as there are nodes it is never
 -- seen, since each of these enters one, a lemma having a step.
 abbrev pub goal_of : Guide → ℕ → ℕ → ℕ → Expr → Seek Found
 goal_of g zero stmt above e s = Err over

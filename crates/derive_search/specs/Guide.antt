@@ -1,4 +1,5 @@
--- What the search goes by at every goal: the homes of names, the lemmas in the order in which they are tried, and what the steps of
+-- What the search goes by at every goal: the homes of names, the lemmas
+-- in the order in which they are tried, and what the steps of
 -- a book of equations make of expressions.
 use Rattle.std.specs.Prelude.{List}
 use Rattle.equations.specs.Book.{Turn}

@@ -1,4 +1,5 @@
--- What the search finds is an instance of the rules: the row of each node answers, from the context at which its goal was entered,
+-- What the search finds is an instance of the rules: the row of each
+-- node answers, from the context at which its goal was entered,
 -- with what was found and the context that the search goes on from. Nodes have the numbers at which their goals were entered.
 use Rattle.std.specs.Prelude.{◌≡◌, ℕ, ◌+◌, ◌≤◌, true, false, List, [], map, sum, Result, Ok, Err}
 use Rattle.rup_base.specs.Gather.{all_true, greatest}
@@ -61,14 +62,17 @@ pub record StmtDerives (g : Guide) (t : Stmt) (before : Seeker) (n : StmtNode) (
 -- what was found for statements one after another, after what those before gave
 pub record BlockDerives (g : Guide) (ts : List Stmt) (before : Seeker) (ns : List StmtNode) (after : Seeker) : Type 0 where
   pub outs : StmtOut → StmtOut
-  pub row : (owner cond : ℕ) (out : StmtOut) → walk owner cond (map (stmt.judged g.turn) ns) before.entered ts out before.ctx ≡ Ok (outs out, after.ctx)
+  pub row : (owner cond : ℕ) (out : StmtOut) → walk owner cond (map (stmt.judged g.turn) ns) before.entered ts out before.ctx
+      ≡ Ok (outs out, after.ctx)
   pub entered : after.entered ≡ before.entered + sum (map stmt_size ns)
   pub sized : sum (map (λ n. n.size) (map (stmt.judged g.turn) ns)) ≡ sum (map stmt_size ns)
   pub few : before.entered ≤ most_nodes → after.entered ≤ most_nodes
   pub shaped : all_true (map stmt_shaped ns) ≡ true
-  pub shallow : IsPlain g → greatest (map measure.stmt_depth ns) ≤ greatest (map limits.stmt_depth ts) + greatest (map limits.stmt_blocks ts) + 1
+  pub shallow : IsPlain g → greatest (map measure.stmt_depth ns) ≤ greatest (map limits.stmt_depth ts)
+      + greatest (map limits.stmt_blocks ts) + 1
 
--- the derivation is whole, and without lemmas so deep at most that its file can be read; each node is in its row, and the conditions
+-- the derivation is whole, and without lemmas so deep at most that its
+-- file can be read; each node is in its row, and the conditions
 -- of the end hold
 pub record IsInstance (lemmas : List Lemma) (turn : Turn) (m : Model) (d : Derivation) : Type 0 where
   pub whole : IsWhole d
@@ -79,7 +83,8 @@ pub record IsInstance (lemmas : List Lemma) (turn : Turn) (m : Model) (d : Deriv
 
 -- with all lemmas and every book
 abbrev pub DerivationsAreInstances : Type 0
-DerivationsAreInstances = (lemmas : List Lemma) (turn : Turn) (m : Model) (d : Derivation) → derived lemmas turn m ≡ Ok d → IsInstance lemmas turn m d
+DerivationsAreInstances = (lemmas : List Lemma) (turn : Turn) (m : Model) (d : Derivation) → derived lemmas turn m ≡ Ok d
+    → IsInstance lemmas turn m d
 
 abbrev pub ExpressionsDerive : Type 0
 ExpressionsDerive = (g : Guide) (deep stmt : ℕ) (e : Expr) (s : Seeker) → Gives (Derives g e s) (seek g deep stmt e s)

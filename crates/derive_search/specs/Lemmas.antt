@@ -1,4 +1,5 @@
--- What lemmas do at the goal of an expression: the first that rewrites it in as few steps as are left does, and each of its steps is
+-- What lemmas do at the goal of an expression: the first that rewrites it
+-- in as few steps as are left does, and each of its steps is
 -- a node of the rule of equations.
 use Rattle.std.specs.Prelude.{ℕ, pos, nat_le, List, [], ◌∷◌, length, Option, Some, None, option_and_then, Err, if◌then◌else◌}
 use Rattle.std.specs.Option.{option_or}

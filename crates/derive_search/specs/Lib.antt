@@ -13,6 +13,7 @@ pub mod Opening
 pub mod Mapping
 pub mod Folding
 pub mod Trips
+pub mod Notes
 pub mod Turns
 pub mod Statements
 pub mod Derive

@@ -1,6 +1,7 @@
 -- Which local a name gets. The home of a parameter or length name is its argument's local; the homes of the names that statements
 -- bind come after those, in the order of first sight; and past all homes are locals without a home's name.
-use Rattle.std.specs.Prelude.{ℕ, zero, suc, ◌+◌, ◌-◌, nat_le, Bool, not, ◌&&◌, List, [], length, Option, Some, None, option_map, if◌then◌else◌}
+use Rattle.std.specs.Prelude.{ℕ, zero, suc, ◌+◌, ◌-◌, nat_le, Bool, not, ◌&&◌, List, [], length, Option, Some, None, option_map}
+use Rattle.std.specs.Prelude.{if◌then◌else◌}
 use Rattle.std.specs.Option.{option_or}
 use Rattle.std.specs.List.{find, position_from}
 use Rattle.model_syntax.specs.Names.{Name, same}
@@ -25,7 +26,8 @@ local_of h = h.local
 -- the home of a name
 abbrev pub home : Homes → Name → Option ℕ
 home h x =
-    option_or (option_map local_of (find (is_scalar x) h.params)) (option_map (λ k. h.args + k) (position_from (same x) 0 h.names))
+    option_or (option_map local_of (find (is_scalar x) h.params))
+    (option_map (λ k. h.args + k) (position_from (same x) 0 h.names))
 
 -- the first local past all homes
 abbrev pub base : Homes → ℕ

@@ -1,5 +1,5 @@
 -- The nodes of statements that the search makes, and what a statement is refused with.
-use Rattle.std.specs.Prelude.{ℕ, ℤ, List, [], ◌∷◌, ◌++◌, Result, Ok, Err}
+use Rattle.std.specs.Prelude.{ℕ, ℤ, List, [], ◌∷◌, Result, Ok, Err}
 use Rattle.rup_base.specs.declared.refusal.Refusal.{Refusal}
 use Rattle.rup_base.specs.declared.refusal.Refusal.TheVariants.{Stuck}
 use Rattle.rup_base.specs.declared.refusal.Goal.TheVariants as goal
@@ -17,7 +17,8 @@ stuck stmt = Stuck stmt goal.Stmt
 
 -- a node with blocks of these nodes
 abbrev pub node_with : deriv.Rule → List ℤ → List Cert → List ExprNode → List Block → StmtNode
-node_with rule args certs kids blocks = roll-StmtNode (record { step = record { rule = rule; args = args; certs = certs }; kids = kids; blocks = blocks })
+node_with rule args certs kids blocks =
+    roll-StmtNode (record { step = record { rule = rule; args = args; certs = certs }; kids = kids; blocks = blocks })
 
 -- a node without blocks
 abbrev pub node : deriv.Rule → List ℤ → List Cert → List ExprNode → StmtNode
@@ -31,9 +32,13 @@ abbrev pub ended : {A B : Type 0} → Refusal → B → Result (A × Context) Re
 ended refusal b (Ok p) = Ok (b, p.1)
 ended refusal b (Err other) = Err refusal
 
--- the statements of a block one after another, after the nodes of those before; here notes will come before each
-abbrev pub in_order : List StmtNode → List (Seek StmtNode) → Seek (List StmtNode)
-in_order done [] = give done
-in_order done (t ∷ ts) = do
-  n ← t
-  in_order (done ++ n ∷ []) ts
+-- what is found goes behind the nodes that were found before
+abbrev pub Adds : Type 0
+Adds = List StmtNode → Seek (List StmtNode)
+
+-- one after another
+abbrev pub in_order : List Adds → Adds
+in_order [] done = give done
+in_order (t ∷ ts) done = do
+  nodes ← t done
+  in_order ts nodes

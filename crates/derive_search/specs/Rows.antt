@@ -1,7 +1,8 @@
 -- The rows that are tried for an expression, in their order, when its kids are derived. A row fits where its rule gives something
 -- in the context: its certificate is found, its forms are within the limits, and there is room for what it adds. What it gives is
 -- the rule's own last part (`expr_rules`, `specs/rules/`).
-use Rattle.std.specs.Prelude.{ℕ, ◌+ℤ◌, ℤ, pos, negsuc, neg_ℤ, nat_le, Bool, List, [], ◌∷◌, length, Option, Some, None, option_and_then, Result, Ok, Err, if◌then◌else◌}
+use Rattle.std.specs.Prelude.{ℕ, ◌+ℤ◌, ℤ, pos, negsuc, neg_ℤ, nat_le, Bool, List, [], ◌∷◌, length, Option, Some, None}
+use Rattle.std.specs.Prelude.{option_and_then, Result, Ok, Err, if◌then◌else◌}
 use Rattle.std.specs.Option.{option_or}
 use Rattle.rup_base.specs.declared.refusal.Refusal.{Refusal}
 use Rattle.model_syntax.specs.Names.{Name}
@@ -14,7 +15,8 @@ use Rattle.cert_search.specs.Search.{found}
 use Rattle.sym_heap.specs.declared.parts.Clause.{Clause}
 use Rattle.sym_heap.specs.Context.{Context, most_facts, own}
 use Rattle.deriv_tree.specs.declared.rule.Rule as deriv
-use Rattle.deriv_tree.specs.declared.rule.Rule.TheVariants.{EOp, EAdd, ESub, EMulk, EMask, EShift, ERemk, EDivk, EByte, ECut, EGet, ETab}
+use Rattle.deriv_tree.specs.declared.rule.Rule.TheVariants.{EOp, EAdd, ESub, EMulk, EMask, EShift, ERemk, EDivk, EByte, ECut}
+use Rattle.deriv_tree.specs.declared.rule.Rule.TheVariants.{EGet, ETab}
 use Rattle.expr_rules.specs.declared.output.ExprOut.{ExprOut}
 use Rattle.expr_rules.specs.Words.{Rule, most, sum_of, number_of}
 use Rattle.expr_rules.specs.rules.Op as operation

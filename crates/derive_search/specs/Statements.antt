@@ -1,5 +1,6 @@
--- The search over statements: for each the one rule that is for it.
-use Rattle.std.specs.Prelude.{ℕ, ◌+◌, pos, List, [], ◌∷◌, map, Option, Some, None, option_and_then, is_some, Result, Ok, Err, if◌then◌else◌}
+-- The search over statements: for each the notes before it, and then the one rule that is for it.
+use Rattle.std.specs.Prelude.{ℕ, ◌+◌, pos, List, [], ◌∷◌, ◌++◌, map, Option, Some, None, option_and_then, is_some, Result, Ok}
+use Rattle.std.specs.Prelude.{Err, if◌then◌else◌}
 use Rattle.rup_base.specs.declared.refusal.Refusal.{Refusal}
 use Rattle.model_syntax.specs.Names.{Name}
 use Rattle.model_syntax.specs.declared.expr.Expr.{Expr, out-Expr}
@@ -22,7 +23,8 @@ use Rattle.derive_search.specs.Rows.{certificate, index_goal}
 use Rattle.derive_search.specs.Expressions.{seek}
 use Rattle.derive_search.specs.Guide.{Guide}
 use Rattle.derive_search.specs.Locals.{Homes, choice}
-use Rattle.derive_search.specs.Nodes.{stuck, node, ended, in_order}
+use Rattle.derive_search.specs.Nodes.{Adds, stuck, node, ended, in_order}
+use Rattle.derive_search.specs.Notes.{notes_before}
 use Rattle.derive_search.specs.Branching.{seek_if}
 use Rattle.derive_search.specs.Mapping.{seek_map}
 use Rattle.derive_search.specs.Folding.{seek_fold}
@@ -31,7 +33,8 @@ use Rattle.derive_search.specs.Turns.{seek_for}
 -- The last step of each rule, after its kids.
 
 abbrev pub bound : ℕ → Refusal → Name → Found → Option ℕ → Option Scalar → Rule StmtNode
-bound at refusal x f (Some l) (Some t) c = ended refusal (node SLet (pos l ∷ []) [] (f.node ∷ [])) (let_rule.after at x l t f.out c)
+bound at refusal x f (Some l) (Some t) c =
+    ended refusal (node SLet (pos l ∷ []) [] (f.node ∷ [])) (let_rule.after at x l t f.out c)
 bound at refusal x f _ _ c = Err refusal
 
 abbrev pub binding : Homes → ℕ → Refusal → Name → Expr → Found → Rule StmtNode
@@ -94,7 +97,7 @@ seek_move guide deep at stmt b a i v = where_holds (λ c. can_move c a b) (stuck
   in_context (moving at (stuck stmt) b a fg.0 fg.1))
 
 -- a statement; of a block inside it are given the searches of its statements
-abbrev pub statement : Guide → ℕ → ℕ → ℕ → Stmt-F (Seek StmtNode) → Seek StmtNode
+abbrev pub statement : Guide → ℕ → ℕ → ℕ → Stmt-F Adds → Seek StmtNode
 statement guide deep at stmt (s.Let x a) = seek_let guide deep at stmt x a
 statement guide deep at stmt (s.Put a i v) = seek_put guide deep at stmt a i v
 statement guide deep at stmt (s.Move b a i v) = seek_move guide deep at stmt b a i v
@@ -103,15 +106,31 @@ statement guide deep at stmt (s.For x low high names keep body) = seek_for guide
 statement guide deep at stmt (s.Map a x v) = seek_map guide deep at stmt a x v
 statement guide deep at stmt (s.Fold t a x v) = seek_fold guide deep at stmt t a x v
 
-abbrev pub stmt_step : Guide → ℕ → Stmt-F (Seek StmtNode) → Seek StmtNode
-stmt_step guide deep t = begin (λ at stmt. statement guide deep at stmt t)
+-- the goal of the statement itself
+abbrev pub own_goal : Guide → ℕ → Stmt-F Adds → Seek StmtNode
+own_goal guide deep t = begin (λ at stmt. statement guide deep at stmt t)
 
-abbrev pub seek_stmt : Guide → ℕ → Stmt → Seek StmtNode
-seek_stmt guide deep = fold-Stmt (Seek StmtNode) (stmt_step guide deep)
+-- a statement's own node behind those of its notes
+abbrev pub behind : List StmtNode → Seek StmtNode → Seek (List StmtNode)
+behind nodes next = do
+  n ← next
+  give (nodes ++ n ∷ [])
+
+-- the notes before a statement, and then its own node
+abbrev pub after_notes : Adds → Seek StmtNode → Adds
+after_notes notes next done = do
+  nodes ← notes done
+  behind nodes next
+
+abbrev pub stmt_step : Guide → ℕ → Stmt-F Adds → Adds
+stmt_step guide deep t = after_notes (notes_before guide.lemmas t) (own_goal guide deep t)
+
+abbrev pub seek_stmt : Guide → ℕ → Stmt → Adds
+seek_stmt guide deep = fold-Stmt Adds (stmt_step guide deep)
 
 -- a statement, with the searches of those inside it
-abbrev pub opened : Guide → ℕ → Stmt → Stmt-F (Seek StmtNode)
-opened guide deep t = map-Stmt Stmt (Seek StmtNode) (seek_stmt guide deep) (out-Stmt t)
+abbrev pub opened : Guide → ℕ → Stmt → Stmt-F Adds
+opened guide deep t = map-Stmt Stmt Adds (seek_stmt guide deep) (out-Stmt t)
 
 abbrev pub seek_block : Guide → ℕ → List Stmt → Seek (List StmtNode)
-seek_block guide deep ts = in_order [] (map (seek_stmt guide deep) ts)
+seek_block guide deep ts = in_order (map (seek_stmt guide deep) ts) []

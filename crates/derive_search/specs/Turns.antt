@@ -1,6 +1,7 @@
 -- The search over s-for outside its block: from its bounds to the start of the block, and from the block's end on. Conditions and
 -- contexts are those of the rule.
-use Rattle.std.specs.Prelude.{ℕ, pos, Bool, ◌&&◌, List, [], ◌∷◌, ◌++◌, Option, Some, None, option_map, option_and_then, Result, Ok, Err, if◌then◌else◌}
+use Rattle.std.specs.Prelude.{ℕ, pos, Bool, ◌&&◌, List, [], ◌∷◌, ◌++◌, Option, Some, None, option_map, option_and_then, Result}
+use Rattle.std.specs.Prelude.{Ok, Err, if◌then◌else◌}
 use Rattle.std.specs.List.{list_all}
 use Rattle.rup_base.specs.declared.refusal.Refusal.{Refusal}
 use Rattle.model_syntax.specs.Names.{Name}
@@ -27,7 +28,7 @@ use Rattle.derive_search.specs.Elements.{count_locals}
 use Rattle.derive_search.specs.Kept.{certificates}
 use Rattle.derive_search.specs.Guide.{Guide}
 use Rattle.derive_search.specs.Locals.{Homes}
-use Rattle.derive_search.specs.Nodes.{stuck, node_with, block, ended, in_order}
+use Rattle.derive_search.specs.Nodes.{Adds, stuck, node_with, block, ended, in_order}
 use Rattle.derive_search.specs.Trips.{trip_for}
 
 -- Up to the block.
@@ -115,8 +116,8 @@ loop_opened guide deep at stmt x low high names keep = do
   give ((f.node, g.node), o)
 
 -- a loop, of whose block are given the searches of its statements
-abbrev pub seek_for : Guide → ℕ → ℕ → ℕ → Name → Expr → Expr → List Name → List Le → List (Seek StmtNode) → Seek StmtNode
+abbrev pub seek_for : Guide → ℕ → ℕ → ℕ → Name → Expr → Expr → List Name → List Le → List Adds → Seek StmtNode
 seek_for guide deep at stmt x low high names keep ts = do
   o ← loop_opened guide deep at stmt x low high names keep
-  nodes ← in_order [] ts
+  nodes ← in_order ts []
   in_context (loop_ended at (stuck stmt) x names keep o.0.0 o.0.1 o.1 nodes)

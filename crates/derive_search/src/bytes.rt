@@ -45,7 +45,8 @@ fn cut_row(
     kid: ExprNode,
     p: ExprOut,
 ) -> Result<Found, Fail>
-    ensures { AnswersWith result ctx.new (spec.chosen (spec.stuck stmt e.now) (kid ∷ []) (rows.plainly rule.ECut (cut.after at p) ∷ []) ctx.old) }
+    ensures { AnswersWith result ctx.new
+        (spec.chosen (spec.stuck stmt e.now) (kid ∷ []) (rows.plainly rule.ECut (cut.after at p) ∷ []) ctx.old) }
 {
     match cut::after(ctx, at, p) {
         Ok(out) => {

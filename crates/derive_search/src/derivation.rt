@@ -23,8 +23,10 @@ use sym_heap::Ctx;
 /// The greatest number of nodes, and so of goals inside one another.
 const MOST_NODES: u32 = 20_000;
 
-/// The derivation of a model that the stated order finds with these lemmas, whose steps are the book's, or `Stuck` with the first goal
-/// without a row that fits, or `OverNodes` at the first node too many, whichever comes first. What it finds is whole and an instance
+/// The derivation of a model that the stated order finds with these
+/// lemmas, whose steps are the book's, or `Stuck` with the first goal
+/// without a row that fits, or `OverNodes` at the first node too many,
+/// whichever comes first. What it finds is whole and an instance
 /// of the rules.
 pub fn derive<B: Book>(
     alloc: Global,

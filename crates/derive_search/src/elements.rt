@@ -30,7 +30,8 @@ pub fn element_row(
     a: &Name,
     index: Found,
 ) -> Result<Found, Fail>
-    ensures { AnswersWith result ctx.new (spec.chosen (spec.stuck stmt e.now) (index.node ∷ []) (rows.element at a.now index.out ∷ []) ctx.old) }
+    ensures { AnswersWith result ctx.new
+        (spec.chosen (spec.stuck stmt e.now) (index.node ∷ []) (rows.element at a.now index.out ∷ []) ctx.old) }
 {
     let Found { node: kid, out: p } = index;
     let Some(clause) = ctx.own(a) else {
@@ -63,7 +64,8 @@ pub fn entry_row(
     entries: &[u32],
     index: Found,
 ) -> Result<Found, Fail>
-    ensures { AnswersWith result ctx.new (spec.chosen (spec.stuck stmt e.now) (index.node ∷ []) (rows.entry at scalar entries.now index.out ∷ []) ctx.old) }
+    ensures { AnswersWith result ctx.new
+        (spec.chosen (spec.stuck stmt e.now) (index.node ∷ []) (rows.entry at scalar entries.now index.out ∷ []) ctx.old) }
 {
     let Found { node: kid, out: p } = index;
     let Some(goal) = tab::room(entries, &p.form) else {

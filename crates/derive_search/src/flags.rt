@@ -28,7 +28,9 @@ pub fn comparison(
     a: Found,
     b: Found,
 ) -> Result<Found, Fail>
-    ensures { AnswersWith result ctx.new (spec.chosen (spec.stuck stmt e.now) (a.node ∷ b.node ∷ []) (rows.plainly rule.ECmp (cmp.after at test a.out b.out) ∷ []) ctx.old) }
+    ensures { AnswersWith result ctx.new
+        (spec.chosen (spec.stuck stmt e.now) (a.node ∷ b.node ∷ []) (rows.plainly rule.ECmp (cmp.after at test a.out b.out) ∷ [])
+        ctx.old) }
 {
     let Found {
         node: first,
@@ -58,7 +60,9 @@ pub fn both_flags(
     a: Found,
     b: Found,
 ) -> Result<Found, Fail>
-    ensures { AnswersWith result ctx.new (spec.chosen (spec.stuck stmt e.now) (a.node ∷ b.node ∷ []) (rows.plainly rule.EBoth (both.after at a.out b.out) ∷ []) ctx.old) }
+    ensures { AnswersWith result ctx.new
+        (spec.chosen (spec.stuck stmt e.now) (a.node ∷ b.node ∷ []) (rows.plainly rule.EBoth (both.after at a.out b.out) ∷ [])
+        ctx.old) }
 {
     let Found {
         node: first,
@@ -88,7 +92,9 @@ pub fn either_flag(
     a: Found,
     b: Found,
 ) -> Result<Found, Fail>
-    ensures { AnswersWith result ctx.new (spec.chosen (spec.stuck stmt e.now) (a.node ∷ b.node ∷ []) (rows.plainly rule.EEither (either.after at a.out b.out) ∷ []) ctx.old) }
+    ensures { AnswersWith result ctx.new
+        (spec.chosen (spec.stuck stmt e.now) (a.node ∷ b.node ∷ []) (rows.plainly rule.EEither (either.after at a.out b.out) ∷ [])
+        ctx.old) }
 {
     let Found {
         node: first,
@@ -111,7 +117,8 @@ pub fn either_flag(
 
 /// The row of the other flag.
 pub fn other_flag(ctx: &Ctx, at: u32, stmt: u32, e: &Expr, a: Found) -> Result<Found, Fail>
-    ensures { AnswersWith result ctx.now (spec.chosen (spec.stuck stmt e.now) (a.node ∷ []) (rows.plainly rule.ENot (negation.after at a.out) ∷ []) ctx.now) }
+    ensures { AnswersWith result ctx.now
+        (spec.chosen (spec.stuck stmt e.now) (a.node ∷ []) (rows.plainly rule.ENot (negation.after at a.out) ∷ []) ctx.now) }
 {
     let Found { node: kid, out: p } = a;
     match not::after(ctx, at, p) {
@@ -127,7 +134,8 @@ pub fn other_flag(ctx: &Ctx, at: u32, stmt: u32, e: &Expr, a: Found) -> Result<F
 
 /// The row of the word of a byte or a flag.
 pub fn word_of(ctx: &Ctx, at: u32, stmt: u32, e: &Expr, a: Found) -> Result<Found, Fail>
-    ensures { AnswersWith result ctx.now (spec.chosen (spec.stuck stmt e.now) (a.node ∷ []) (rows.plainly rule.EWord (word.after a.out) ∷ []) ctx.now) }
+    ensures { AnswersWith result ctx.now
+        (spec.chosen (spec.stuck stmt e.now) (a.node ∷ []) (rows.plainly rule.EWord (word.after a.out) ∷ []) ctx.now) }
 {
     let Found { node: kid, out: p } = a;
     match word::after(ctx, p) {

@@ -1,4 +1,5 @@
-//! The rows of operations whose value is a further symbol, of which facts are known. They change the context where they fit, so all
+//! The rows of operations whose value is a further symbol, of which facts
+//! are known. They change the context where they fit, so all
 //! is tested before.
 ghost use Rattle.std.specs.Prelude.{◌≡◌, None, Some, IfOk, MatchOption};
 ghost use Rattle.model_syntax.specs.declared.expr.Op.TheVariants as op;
@@ -36,7 +37,7 @@ fn next_symbol(ctx: &Ctx) -> Option<u32>
 }
 
 /// There is room for a further fact.
-fn has_room(ctx: &Ctx) -> bool
+pub fn has_room(ctx: &Ctx) -> bool
     ensures { result ≡ context.has_room ctx.now }
 {
     ctx.facts().len() < MOST_FACTS

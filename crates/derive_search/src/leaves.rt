@@ -18,7 +18,8 @@ use sym_heap::Ctx;
 
 /// The goal of a number.
 pub fn number(ctx: &Ctx, at: u32, stmt: u32, e: &Expr, n: u32) -> Result<Found, Fail>
-    ensures { AnswersWith result ctx.now (spec.chosen (spec.stuck stmt e.now) [] (rows.plainly rule.ELit (lit.after at n) ∷ []) ctx.now) }
+    ensures { AnswersWith result ctx.now
+        (spec.chosen (spec.stuck stmt e.now) [] (rows.plainly rule.ELit (lit.after at n) ∷ []) ctx.now) }
 {
     match lit::after(ctx, at, n) {
         Ok(out) => Ok(Found {
@@ -32,7 +33,8 @@ pub fn number(ctx: &Ctx, at: u32, stmt: u32, e: &Expr, n: u32) -> Result<Found, 
 
 /// The goal of a scalar.
 pub fn variable(ctx: &Ctx, at: u32, stmt: u32, e: &Expr, x: &Name) -> Result<Found, Fail>
-    ensures { AnswersWith result ctx.now (spec.chosen (spec.stuck stmt e.now) [] (rows.plainly rule.EVar (var.after at x.now) ∷ []) ctx.now) }
+    ensures { AnswersWith result ctx.now
+        (spec.chosen (spec.stuck stmt e.now) [] (rows.plainly rule.EVar (var.after at x.now) ∷ []) ctx.now) }
 {
     match var::after(ctx, at, x) {
         Ok(out) => Ok(Found {
@@ -46,7 +48,8 @@ pub fn variable(ctx: &Ctx, at: u32, stmt: u32, e: &Expr, x: &Name) -> Result<Fou
 
 /// The goal of the length of an array.
 pub fn length(ctx: &Ctx, at: u32, stmt: u32, e: &Expr, a: &Name) -> Result<Found, Fail>
-    ensures { AnswersWith result ctx.now (spec.chosen (spec.stuck stmt e.now) [] (rows.plainly rule.ELen (array_length at a.now true) ∷ []) ctx.now) }
+    ensures { AnswersWith result ctx.now
+        (spec.chosen (spec.stuck stmt e.now) [] (rows.plainly rule.ELen (array_length at a.now true) ∷ []) ctx.now) }
 {
     let Some(clause) = ctx.own(a) else {
         return Err(Fail::Refused(stuck(ctx.allocator(), stmt, e)?));

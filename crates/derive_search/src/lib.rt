@@ -19,6 +19,7 @@ mod lemmas;
 mod locals;
 mod mapping;
 mod nodes;
+mod notes;
 mod operations;
 mod seek;
 mod seeker;
@@ -26,6 +27,7 @@ mod special;
 mod statements;
 mod trips;
 mod turns;
+mod writes;
 
 pub use derivation::derive;
 pub use found::Found;

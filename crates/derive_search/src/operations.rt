@@ -51,7 +51,8 @@ pub fn operation_row(
     a: Found,
     b: Found,
 ) -> Result<Found, Fail>
-    ensures { AnswersWith result ctx.new (spec.chosen (spec.stuck stmt e.now) (a.node ∷ b.node ∷ []) (rows.operations at op a.out b.out) ctx.old) }
+    ensures { AnswersWith result ctx.new
+        (spec.chosen (spec.stuck stmt e.now) (a.node ∷ b.node ∷ []) (rows.operations at op a.out b.out) ctx.old) }
 {
     let Found {
         node: first,

@@ -29,7 +29,8 @@ const MOST_STEPS: usize = 8;
 /// The greatest number of entries of a table.
 const MOST_ENTRIES: usize = 65_536;
 
-/// The derivation of an expression in a statement of this number. The level counts the goals and lemmas that may be taken inside one
+/// The derivation of an expression in a statement of this number. The
+/// level counts the goals and lemmas that may be taken inside one
 /// another.
 #[cycle(seek)]
 pub fn seek<B: Book>(
@@ -95,7 +96,8 @@ fn with_row<B: Book>(
     parts(s, guide, deep, at, stmt, e)
 }
 
-/// The goals that steps lead to one after the other, and then the last one, directly inside `above` nodes of the rule of equations.
+/// The goals that steps lead to one after the other, and then the last
+/// one, directly inside `above` nodes of the rule of equations.
 #[cycle(seek)]
 fn by_steps<B: Book>(
     s: &mut Seeker,
@@ -108,7 +110,9 @@ fn by_steps<B: Book>(
 ) -> Result<Found, Fail>
     requires counted { s.old.stmts ≤ s.old.entered }
     requires few { above ≤ 8 }
-    ensures found { AnswersWith result s.new (lemmas.by_steps (B.turn guide.now.book.now) (spec.stuck stmt) (spec.goal_of (guided B.turn guide.now) deep stmt above) steps.now e.now s.old) }
+    ensures found { AnswersWith result s.new
+        (lemmas.by_steps (B.turn guide.now.book.now) (spec.stuck stmt) (spec.goal_of (guided B.turn guide.now) deep stmt above)
+        steps.now e.now s.old) }
     ensures fewer { OnOk result (s.new.stmts ≤ s.new.entered) }
 {
     match steps {
@@ -131,7 +135,9 @@ fn by_step<B: Book>(
 ) -> Result<Found, Fail>
     requires counted { s.old.stmts ≤ s.old.entered }
     requires few { above ≤ 8 }
-    ensures found { AnswersWith result s.new (lemmas.by_steps (B.turn guide.now.book.now) (spec.stuck stmt) (spec.goal_of (guided B.turn guide.now) deep stmt above) (step ∷ rest.now) e.now s.old) }
+    ensures found { AnswersWith result s.new
+        (lemmas.by_steps (B.turn guide.now.book.now) (spec.stuck stmt) (spec.goal_of (guided B.turn guide.now) deep stmt above)
+        (step ∷ rest.now) e.now s.old) }
     ensures fewer { OnOk result (s.new.stmts ≤ s.new.entered) }
 {
     if s.entered >= MOST_NODES {
@@ -156,7 +162,8 @@ fn parts<B: Book>(
     e: &Expr,
 ) -> Result<Found, Fail>
     requires { s.old.stmts ≤ s.old.entered }
-    ensures found { AnswersWith result s.new (spec.parts (spec.seek (guided B.turn guide.now) deep stmt) (spec.stuck stmt e.now) at (out-Expr e.now) s.old) }
+    ensures found { AnswersWith result s.new
+        (spec.parts (spec.seek (guided B.turn guide.now) deep stmt) (spec.stuck stmt e.now) at (out-Expr e.now) s.old) }
     ensures fewer { OnOk result (s.new.stmts ≤ s.new.entered) }
 {
     match e {
@@ -215,7 +222,8 @@ fn element<B: Book>(
     index: &Expr,
 ) -> Result<Found, Fail>
     requires { s.old.stmts ≤ s.old.entered }
-    ensures found { AnswersWith result s.new (spec.in_array (spec.seek (guided B.turn guide.now) deep stmt) (spec.stuck stmt e.now) at a.now index.now s.old) }
+    ensures found { AnswersWith result s.new
+        (spec.in_array (spec.seek (guided B.turn guide.now) deep stmt) (spec.stuck stmt e.now) at a.now index.now s.old) }
     ensures fewer { OnOk result (s.new.stmts ≤ s.new.entered) }
 {
     if !is_array(&s.ctx, a) {
@@ -239,7 +247,9 @@ fn entry<B: Book>(
     index: &Expr,
 ) -> Result<Found, Fail>
     requires { s.old.stmts ≤ s.old.entered }
-    ensures found { AnswersWith result s.new (spec.in_table (spec.seek (guided B.turn guide.now) deep stmt) (spec.stuck stmt e.now) at scalar entries.now index.now s.old) }
+    ensures found { AnswersWith result s.new
+        (spec.in_table (spec.seek (guided B.turn guide.now) deep stmt) (spec.stuck stmt e.now) at scalar entries.now index.now
+        s.old) }
     ensures fewer { OnOk result (s.new.stmts ≤ s.new.entered) }
 {
     if entries.len() > MOST_ENTRIES {

@@ -1,8 +1,7 @@
 //! The search over statements.
-ghost use Rattle.std.specs.Prelude.{◌≡◌, ◌≤◌, [], ◌∷◌, pos, true, map, None, Some, IfOk, OnOk, MatchOption};
+ghost use Rattle.std.specs.Prelude.{◌≡◌, ◌≤◌, [], ◌∷◌, pos, true, map, Some, IfOk, OnOk};
 ghost use Rattle.rup_base.specs.Answers.{AnswersWith};
 ghost use Rattle.deriv_tree.specs.declared.rule.Rule.TheVariants as rule;
-ghost use Rattle.sym_heap.specs.Context as context;
 ghost use Rattle.stmt_rules.specs.Narrow.{narrow, all_narrow, are_narrow};
 ghost use Rattle.derive_search.specs.Branching as branching;
 ghost use Rattle.derive_search.specs.Guide.{guided};
@@ -12,32 +11,28 @@ ghost use Rattle.derive_search.specs.Statements as spec;
 ghost use Rattle.derive_search.specs.Turns as turns;
 
 use crate::branching::{Side, begin_side, end_side, met};
-use crate::certificate::certificate;
-use crate::elements::is_array;
 use crate::folding::seek_fold;
 use crate::found::Found;
 use crate::guide::Guide;
 use crate::locals::{Homes, choice};
 use crate::mapping::seek_map;
 use crate::nodes::{one, over, stuck_at};
+use crate::notes::notes_before;
 use crate::seek::seek;
 use crate::seeker::Seeker;
 use crate::turns::{LoopStart, begin_loop, end_loop};
+use crate::writes::{seek_move, seek_put};
 use deriv_tree::{ExprNode, Rule, Step, StmtNode};
 use equations::Book;
-use expr_rules::rules::get::room;
 use model_syntax::{Expr, Le, Stmt};
 use rup_base::{Fail, List, Name, NoMemory};
-use side_certs::{Cert, Form};
+use side_certs::Form;
 use std::alloc::Global;
 use stmt_rules::kind_of;
 use sym_heap::Ctx;
 
 /// The greatest number of nodes.
 const MOST_NODES: u32 = 20_000;
-
-/// The greatest number of writes.
-const MOST_WRITES: u32 = 4_294_967_295;
 
 /// The node of a binding.
 fn let_node(alloc: Global, local: u32, kid: ExprNode) -> Result<StmtNode, NoMemory>
@@ -52,30 +47,6 @@ fn let_node(alloc: Global, local: u32, kid: ExprNode) -> Result<StmtNode, NoMemo
     Ok(StmtNode {
         step,
         kids: one(alloc, kid)?,
-        blocks: List::new(alloc),
-    })
-}
-
-/// The node of a write.
-fn store_node(
-    alloc: Global,
-    rule: Rule,
-    cert: Cert,
-    index: ExprNode,
-    value: ExprNode,
-) -> Result<StmtNode, NoMemory>
-    ensures { IfOk result (λ node. node ≡ nodes.node rule [] (cert ∷ []) (index ∷ value ∷ [])) }
-{
-    let step = Step {
-        rule,
-        args: List::new(alloc),
-        certs: one(alloc, cert)?,
-    };
-    let mut kids = one(alloc, index)?;
-    kids.push(value)?;
-    Ok(StmtNode {
-        step,
-        kids,
         blocks: List::new(alloc),
     })
 }
@@ -107,62 +78,6 @@ fn bind(
     Ok(let_node(ctx.allocator(), local, kid)?)
 }
 
-/// Counts the write to an array whose index is shown to be in range: the certificate of that.
-fn write(ctx: &mut Ctx, at: u32, a: &Name, i: &Found, v: &Found) -> Result<Option<Cert>, NoMemory>
-    ensures { IfOk result (λ cert. MatchOption cert
-        (spec.written at a.now i.now v.now ctx.old ≡ None)
-        (λ k. spec.written at a.now i.now v.now ctx.old ≡ Some (k, ctx.new))) }
-{
-    let _ = at;
-    let _ = v;
-    let Some(clause) = ctx.own(a) else {
-        return Ok(None);
-    };
-    let Some(goal) = room(&clause.length, &i.out.form) else {
-        return Ok(None);
-    };
-    let Some(cert) = certificate(ctx, &goal)? else {
-        return Ok(None);
-    };
-    if clause.writes >= MOST_WRITES {
-        return Ok(None);
-    }
-    let _ = ctx.wrote(a);
-    Ok(Some(cert))
-}
-
-/// The last step of a write.
-fn store(ctx: &mut Ctx, at: u32, stmt: u32, a: &Name, i: Found, v: Found) -> Result<StmtNode, Fail>
-    ensures { AnswersWith result ctx.new (spec.storing at (nodes.stuck stmt) a.now i v ctx.old) }
-{
-    match write(ctx, at, a, &i, &v)? {
-        None => Err(stuck_at(stmt)),
-        Some(cert) => Ok(store_node(ctx.allocator(), Rule::SPut, cert, i.node, v.node)?),
-    }
-}
-
-/// The last step of a write after which the array has another name.
-fn store_moved(
-    ctx: &mut Ctx,
-    at: u32,
-    stmt: u32,
-    b: &Name,
-    a: &Name,
-    i: Found,
-    v: Found,
-) -> Result<StmtNode, Fail>
-    ensures { AnswersWith result ctx.new (spec.moving at (nodes.stuck stmt) b.now a.now i v ctx.old) }
-{
-    let Some(cert) = write(ctx, at, a, &i, &v)? else {
-        return Err(stuck_at(stmt));
-    };
-    if ctx.move_clause(a, b)? {
-        Ok(store_node(ctx.allocator(), Rule::SMove, cert, i.node, v.node)?)
-    } else {
-        Err(stuck_at(stmt))
-    }
-}
-
 /// The goal of a binding, whose node has the number `at`.
 fn seek_let<B: Book>(
     s: &mut Seeker,
@@ -181,76 +96,6 @@ fn seek_let<B: Book>(
     bind(&mut s.ctx, &guide.homes, at, stmt, x, a, f)
 }
 
-/// The goals of index and value.
-fn seek_two<B: Book>(
-    s: &mut Seeker,
-    guide: &Guide<'_, '_, B>,
-    deep: u32,
-    stmt: u32,
-    i: &Expr,
-    v: &Expr,
-) -> Result<(Found, Found), Fail>
-    requires { s.old.stmts ≤ s.old.entered }
-    ensures found { AnswersWith result s.new (spec.seek_two (guided B.turn guide.now) deep stmt i.now v.now s.old) }
-    ensures fewer { OnOk result (s.new.stmts ≤ s.new.entered) }
-{
-    let f = seek(s, guide, deep, stmt, i)?;
-    let g = seek(s, guide, deep, stmt, v)?;
-    Ok((f, g))
-}
-
-/// The goal of a write, whose node has the number `at`.
-fn seek_put<B: Book>(
-    s: &mut Seeker,
-    guide: &Guide<'_, '_, B>,
-    deep: u32,
-    at: u32,
-    stmt: u32,
-    a: &Name,
-    i: &Expr,
-    v: &Expr,
-) -> Result<StmtNode, Fail>
-    requires { s.old.stmts ≤ s.old.entered }
-    ensures found { AnswersWith result s.new (spec.seek_put (guided B.turn guide.now) deep at stmt a.now i.now v.now s.old) }
-    ensures fewer { OnOk result (s.new.stmts ≤ s.new.entered) }
-{
-    if !is_array(&s.ctx, a) {
-        return Err(stuck_at(stmt));
-    }
-    let (f, g) = seek_two(s, guide, deep, stmt, i, v)?;
-    store(&mut s.ctx, at, stmt, a, f, g)
-}
-
-/// The first name is an array's, and no other array has the second.
-fn can_move(ctx: &Ctx, a: &Name, b: &Name) -> bool
-    ensures { result ≡ context.can_move ctx.now a.now b.now }
-{
-    ctx.own(a).is_some() && (a == b || ctx.own(b).is_none())
-}
-
-/// The goal of a write after which the array has another name.
-fn seek_move<B: Book>(
-    s: &mut Seeker,
-    guide: &Guide<'_, '_, B>,
-    deep: u32,
-    at: u32,
-    stmt: u32,
-    b: &Name,
-    a: &Name,
-    i: &Expr,
-    v: &Expr,
-) -> Result<StmtNode, Fail>
-    requires { s.old.stmts ≤ s.old.entered }
-    ensures found { AnswersWith result s.new (spec.seek_move (guided B.turn guide.now) deep at stmt b.now a.now i.now v.now s.old) }
-    ensures fewer { OnOk result (s.new.stmts ≤ s.new.entered) }
-{
-    if !can_move(&s.ctx, a, b) {
-        return Err(stuck_at(stmt));
-    }
-    let (f, g) = seek_two(s, guide, deep, stmt, i, v)?;
-    store_moved(&mut s.ctx, at, stmt, b, a, f, g)
-}
-
 /// The goals of the bounds of a loop, and how its block begins.
 fn open_loop<B: Book>(
     s: &mut Seeker,
@@ -266,7 +111,8 @@ fn open_loop<B: Book>(
 ) -> Result<((ExprNode, ExprNode), LoopStart), Fail>
     requires counted { s.old.stmts ≤ s.old.entered }
     requires facts { all_narrow keep.now ≡ true }
-    ensures found { AnswersWith result s.new (turns.loop_opened (guided B.turn guide.now) deep at stmt x.now low.now high.now names.now keep.now s.old) }
+    ensures found { AnswersWith result s.new
+        (turns.loop_opened (guided B.turn guide.now) deep at stmt x.now low.now high.now names.now keep.now s.old) }
     ensures fewer { OnOk result (s.new.stmts ≤ s.new.entered) }
 {
     let entries = s.ctx.entries();
@@ -288,9 +134,49 @@ fn open_loop<B: Book>(
     Ok(((f.node, g.node), opened))
 }
 
-/// The goal of a statement.
+/// The notes before a statement and its own goal, behind these nodes.
 #[cycle(statements)]
+#[tactic(auto, using(crate::proofs::Opened::stmt_noted))]
 fn seek_stmt<B: Book>(
+    s: &mut Seeker,
+    guide: &Guide<'_, '_, B>,
+    deep: u32,
+    t: &Stmt,
+    done: List<StmtNode>,
+) -> Result<List<StmtNode>, Fail>
+    requires counted { s.old.stmts ≤ s.old.entered }
+    requires narrow { narrow t.now ≡ true }
+    ensures found { AnswersWith result s.new (spec.seek_stmt (guided B.turn guide.now) deep t.now done s.old) }
+    ensures fewer { OnOk result (s.new.stmts ≤ s.new.entered) }
+{
+    let noted = notes_before(s, guide.lemmas, t, done)?;
+    own_node(s, guide, deep, t, noted)
+}
+
+/// The statement's own node behind those of its notes.
+#[cycle(statements)]
+fn own_node<B: Book>(
+    s: &mut Seeker,
+    guide: &Guide<'_, '_, B>,
+    deep: u32,
+    t: &Stmt,
+    noted: List<StmtNode>,
+) -> Result<List<StmtNode>, Fail>
+    requires counted { s.old.stmts ≤ s.old.entered }
+    requires narrow { narrow t.now ≡ true }
+    ensures found { AnswersWith result s.new (spec.behind noted
+        (spec.own_goal (guided B.turn guide.now) deep (spec.opened (guided B.turn guide.now) deep t.now)) s.old) }
+    ensures fewer { OnOk result (s.new.stmts ≤ s.new.entered) }
+{
+    let node = own_goal(s, guide, deep, t)?;
+    let mut nodes = noted;
+    nodes.push(node)?;
+    Ok(nodes)
+}
+
+/// The goal of a statement itself.
+#[cycle(statements)]
+fn own_goal<B: Book>(
     s: &mut Seeker,
     guide: &Guide<'_, '_, B>,
     deep: u32,
@@ -298,7 +184,8 @@ fn seek_stmt<B: Book>(
 ) -> Result<StmtNode, Fail>
     requires counted { s.old.stmts ≤ s.old.entered }
     requires narrow { narrow t.now ≡ true }
-    ensures found { AnswersWith result s.new (spec.seek_stmt (guided B.turn guide.now) deep t.now s.old) }
+    ensures found { AnswersWith result s.new
+        (spec.own_goal (guided B.turn guide.now) deep (spec.opened (guided B.turn guide.now) deep t.now) s.old) }
     ensures fewer { OnOk result (s.new.stmts ≤ s.new.entered) }
 {
     let at = s.entered;
@@ -323,7 +210,8 @@ fn statement<B: Book>(
 ) -> Result<StmtNode, Fail>
     requires counted { s.old.stmts ≤ s.old.entered }
     requires narrow { narrow t.now ≡ true }
-    ensures found { AnswersWith result s.new (spec.statement (guided B.turn guide.now) deep at stmt (spec.opened (guided B.turn guide.now) deep t.now) s.old) }
+    ensures found { AnswersWith result s.new
+        (spec.statement (guided B.turn guide.now) deep at stmt (spec.opened (guided B.turn guide.now) deep t.now) s.old) }
     ensures fewer { OnOk result (s.new.stmts ≤ s.new.entered) }
 {
     match t {
@@ -366,7 +254,10 @@ fn seek_if<B: Book>(
     requires facts { all_narrow keep.now ≡ true }
     requires firsts { are_narrow first.now ≡ true }
     requires seconds { are_narrow second.now ≡ true }
-    ensures found { AnswersWith result s.new (branching.seek_if (guided B.turn guide.now) deep at stmt test.now names.now keep.now (map (spec.seek_stmt (guided B.turn guide.now) deep) first.now) (map (spec.seek_stmt (guided B.turn guide.now) deep) second.now) s.old) }
+    ensures found { AnswersWith result s.new
+        (branching.seek_if (guided B.turn guide.now) deep at stmt test.now names.now keep.now
+        (map (spec.seek_stmt (guided B.turn guide.now) deep) first.now)
+        (map (spec.seek_stmt (guided B.turn guide.now) deep) second.now) s.old) }
     ensures fewer { OnOk result (s.new.stmts ≤ s.new.entered) }
 {
     let Found { node, out } = seek(s, guide, deep, stmt, test)?;
@@ -393,7 +284,9 @@ fn seek_side<B: Book>(
     requires counted { s.old.stmts ≤ s.old.entered }
     requires facts { all_narrow keep.now ≡ true }
     requires narrow { are_narrow block.now ≡ true }
-    ensures found { AnswersWith result s.new (branching.seek_side (guided B.turn guide.now) at stmt names.now keep.now facts.now (map (spec.seek_stmt (guided B.turn guide.now) deep) block.now) s.old) }
+    ensures found { AnswersWith result s.new
+        (branching.seek_side (guided B.turn guide.now) at stmt names.now keep.now facts.now
+        (map (spec.seek_stmt (guided B.turn guide.now) deep) block.now) s.old) }
     ensures fewer { OnOk result (s.new.stmts ≤ s.new.entered) }
 {
     let before = begin_side(&mut s.ctx, at, stmt, names, facts)?;
@@ -419,7 +312,9 @@ fn seek_for<B: Book>(
     requires counted { s.old.stmts ≤ s.old.entered }
     requires facts { all_narrow keep.now ≡ true }
     requires narrow { are_narrow body.now ≡ true }
-    ensures found { AnswersWith result s.new (turns.seek_for (guided B.turn guide.now) deep at stmt x.now low.now high.now names.now keep.now (map (spec.seek_stmt (guided B.turn guide.now) deep) body.now) s.old) }
+    ensures found { AnswersWith result s.new
+        (turns.seek_for (guided B.turn guide.now) deep at stmt x.now low.now high.now names.now keep.now
+        (map (spec.seek_stmt (guided B.turn guide.now) deep) body.now) s.old) }
     ensures fewer { OnOk result (s.new.stmts ≤ s.new.entered) }
 {
     let (bounds, opened) = open_loop(s, guide, deep, at, stmt, x, low, high, names, keep)?;
@@ -442,7 +337,7 @@ pub fn seek_block<B: Book>(
 {
     let mut nodes = List::new(s.ctx.allocator());
     for t in block {
-        nodes.push(seek_stmt(s, guide, deep, t)?)?;
+        nodes = seek_stmt(s, guide, deep, t, nodes)?;
     }
     Ok(nodes)
 }

@@ -21,7 +21,7 @@ pub struct Trip {
 }
 
 /// The form as the arguments of a node: its constant, and then symbols and coefficients in pairs.
-fn as_args(alloc: Global, form: &Form) -> Result<List<i64>, NoMemory>
+pub fn as_args(alloc: Global, form: &Form) -> Result<List<i64>, NoMemory>
     ensures { IfOk result (λ args. args ≡ spec.as_args form.now) }
 {
     let mut args = one(alloc, form.constant_part())?;

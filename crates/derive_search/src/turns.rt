@@ -136,7 +136,8 @@ pub fn begin_loop(
     high: &Form,
 ) -> Result<LoopStart, Fail>
     requires { all_narrow keep.now ≡ true }
-    ensures { AnswersWith result ctx.new (spec.loop_begun (given homes.now) entries at (stuck stmt) x.now names.now keep.now low.now high.now ctx.old) }
+    ensures { AnswersWith result ctx.new
+        (spec.loop_begun (given homes.now) entries at (stuck stmt) x.now names.now keep.now low.now high.now ctx.old) }
 {
     let Some(plan) = planned(ctx, homes, entries, x, keep, low, high)? else {
         return Err(stuck_at(stmt));
@@ -228,7 +229,8 @@ pub fn end_loop(
     nodes: List<StmtNode>,
 ) -> Result<StmtNode, Fail>
     requires { all_narrow keep.now ≡ true }
-    ensures { AnswersWith result ctx.new (spec.loop_ended at (stuck stmt) x.now names.now keep.now bounds.0 bounds.1 opened nodes ctx.old) }
+    ensures { AnswersWith result ctx.new
+        (spec.loop_ended at (stuck stmt) x.now names.now keep.now bounds.0 bounds.1 opened nodes ctx.old) }
 {
     let LoopStart {
         plan,

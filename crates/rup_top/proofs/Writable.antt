@@ -56,6 +56,8 @@ use Rattle.deriv_tree.specs.declared.tree.Block.{Block, fold-roll-Block}
 use Rattle.deriv_tree.specs.declared.tree.Block.TheOpen.{Block-F, StmtNode-F}
 use Rattle.equations.specs.Book.{Turn}
 use Rattle.lemma_files.specs.declared.terms.Lemma.{Lemma}
+use Rattle.lemma_files.specs.declared.terms.Lemma.TheVariants.{Rewrite, Note}
+use Rattle.lemma_files.specs.Fits.{fits_layer}
 use Rattle.lemma_files.specs.Steps.{expand}
 use Rattle.expr_rules.specs.declared.output.ExprOut.{ExprOut}
 use Rattle.expr_rules.specs.Row.{array_length}
@@ -104,6 +106,7 @@ use Rattle.derive_search.specs.declared.branching.Side.{Side}
 use Rattle.derive_search.specs.declared.folding.FoldStart.{FoldStart}
 use Rattle.derive_search.specs.declared.found.Found.{Found}
 use Rattle.derive_search.specs.declared.mapping.MapStart.{MapStart}
+use Rattle.derive_search.specs.declared.notes.Noted.{Noted}
 use Rattle.derive_search.specs.declared.trips.Trip.{Trip}
 use Rattle.derive_search.specs.declared.turns.LoopStart.{LoopStart}
 use Rattle.derive_search.specs.declared.turns.Plan.{Plan}
@@ -123,15 +126,17 @@ use Rattle.derive_search.specs.Folding as folding
 use Rattle.derive_search.specs.Kept.{certificates, certificate_of, led}
 use Rattle.derive_search.specs.Mapping as mapping
 use Rattle.derive_search.specs.Nodes as nodes
+use Rattle.derive_search.specs.Notes as notes
 use Rattle.derive_search.specs.Opening.{map_opens, fold_opens}
 use Rattle.derive_search.specs.Trips.{trip_for}
 use Rattle.derive_search.specs.Turns as turns
 use Rattle.derive_search.specs.Statements as statements
 use Rattle.derive_search.specs.Derive.{guide_of, at_start, is_end, derivation, finished, derived_within, derived}
 use Rattle.derive_search.specs.Instance.{Gives}
-use Rattle.derive_search.proofs.laws.Arguments.{trip_args_small}
+use Rattle.derive_search.proofs.laws.Arguments.{flat_small, trip_args_small}
 use Rattle.derive_search.proofs.laws.Choosing.{choice_in_range}
 use Rattle.derive_search.proofs.laws.ElementLocals.{InRange, FoldInRange, map_in_range, fold_in_range, count_holds}
+use Rattle.derive_search.proofs.laws.Notes.{NoteHolds, note_holds}
 use Rattle.derive_search.proofs.laws.Trips.{trip_holds}
 use Rattle.derive_search.proofs.laws.Walking.{gives_then, gives_enter, gives_where}
 use Rattle.rup_top.proofs.Rooms.{Room, In, After, if_begins, if_joins, for_begins, for_leaves, map_starts, map_after, fold_starts}
@@ -996,24 +1001,62 @@ module _ (guide : Guide) (deep stmt : ℕ) (k : Seeker) (room : Room k.ctx) wher
       refl (ff.fits, tt) tt)
       (fold_after at y o.locals o.clause o.first o.before f.out.code u.ctx ff.room)))
 
+-- ---- Notes.
+
+-- nodes that fit are put behind nodes that fit, from whichever moment of the search
+abbrev Adding : nodes.Adds → Type 0
+Adding a = (done : List StmtNode) (k : Seeker) → AllFit done → Room k.ctx → Gives BlockFound (a done k)
+
+all_adding : {B : Type 0} (search : B → nodes.Adds) → ((x : B) → Adding (search x)) → (xs : List B)
+    → Adding (nodes.in_order (map search xs))
+all_adding search each [] done k all room = record { all = all; room = room }
+all_adding search each (x ∷ xs) done k all room =
+    gives_then BlockFound k BlockFound (search x done) (λ ns. nodes.in_order (map search xs) ns) (each x done k all room)
+    (λ ns t b. all_adding search each xs ns t b.all b.room)
+
+note_fits : (c : Context) → Room c → (n : Noted) → NoteHolds c n → StmtFits (notes.note_node n)
+note_fits c room n holds =
+    node_with_fits rule.SNote n.args (n.cert ∷ []) [] [] (smalls_are n.args (flat_small n.args n.form holds.read))
+    (rw (certificate_fits c room n.form n.cert holds.shown) refl) tt tt
+
+given_fits : (k : Seeker) → Room k.ctx → (o : Option Noted) → ((n : Noted) → o ≡ Some n → NoteHolds k.ctx n)
+    → (done : List StmtNode) → AllFit done → Gives BlockFound (notes.given o done k)
+given_fits k room None holds done all = record { all = all; room = room }
+given_fits k room (Some n) holds done all =
+    gives_enter BlockFound k (λ at. in_context (notes.taken n done))
+    (λ more. record { all = fit_behind done (notes.note_node n) all (note_fits k.ctx room n (holds n refl)); room = room })
+
+fact_fits : (r : Le) → Adding (notes.noted r)
+fact_fits r done k all room = given_fits k room (notes.note_of k.ctx r) (λ n is. note_holds k.ctx r n is) done all
+
+fitting_notes : (b : Bool) (facts : List Le) → Adding (if b then nodes.in_order (map notes.noted facts) else given)
+fitting_notes true facts done k all room = all_adding notes.noted fact_fits facts done k all room
+fitting_notes false facts done k all room = record { all = all; room = room }
+
+lemma_fits : {A : Type 0} (t : Stmt-F A) (l : Lemma) → Adding (notes.notes_of t l)
+lemma_fits t (Rewrite x pattern steps) done k all room = record { all = all; room = room }
+lemma_fits t (Note x shape facts) done k all room = fitting_notes (fits_layer shape t) facts done k all room
+
+notes_fit : {A : Type 0} (t : Stmt-F A) (ls : List Lemma) → Adding (notes.notes_before ls t)
+notes_fit t ls = all_adding (notes.notes_of t) (lemma_fits t) ls
+
 -- ---- Statements with blocks.
 
 module _ (guide : Guide) (deep : ℕ) where
   -- what is found for the statement fits, from whichever moment of the search
   abbrev Fitting : Stmt → Type 0
-  Fitting z = (k : Seeker) → Room k.ctx → Gives Fits (statements.seek_stmt guide deep z k)
+  Fitting z = Adding (statements.seek_stmt guide deep z)
 
   abbrev Fittings : List Stmt → Type 0
   Fittings [] = Unit {0}
   Fittings (z ∷ zs) = Fitting z × Fittings zs
 
-  in_order_fits : (ts : List Stmt) → Fittings ts → (done : List StmtNode) (k : Seeker) → AllFit done → Room k.ctx
-      → Gives BlockFound (nodes.in_order done (map (statements.seek_stmt guide deep) ts) k)
+  in_order_fits : (ts : List Stmt) → Fittings ts → Adding (nodes.in_order (map (statements.seek_stmt guide deep) ts))
   in_order_fits [] each done k all room = record { all = all; room = room }
   in_order_fits (z ∷ zs) each done k all room =
-      gives_then BlockFound k Fits (statements.seek_stmt guide deep z)
-      (λ n. nodes.in_order (done ++ n ∷ []) (map (statements.seek_stmt guide deep) zs)) (each.0 k room)
-      (λ n t one. in_order_fits zs each.1 (done ++ n ∷ []) t (fit_behind done n all one.fits) one.room)
+      gives_then BlockFound k BlockFound (statements.seek_stmt guide deep z done)
+      (λ ns. nodes.in_order (map (statements.seek_stmt guide deep) zs) ns) (each.0 done k all room)
+      (λ ns t b. in_order_fits zs each.1 ns t b.all b.room)
 
   module _ (at stmt : ℕ) (names : List Name) (keep : List Le) where
     side_starts_fit : (facts : List LinearForm) (k : Seeker) → Room k.ctx
@@ -1051,9 +1094,9 @@ module _ (guide : Guide) (deep : ℕ) where
         → Gives SideFits (branching.seek_side guide at stmt names keep facts (map (statements.seek_stmt guide deep) ts) k)
     side_fits facts ts each k room =
         gives_then SideFits k (λ b t. Room t.ctx) (in_context (branching.side_begun at (nodes.stuck stmt) names facts))
-        (λ before. then_seek (nodes.in_order [] (map (statements.seek_stmt guide deep) ts))
+        (λ before. then_seek (nodes.in_order (map (statements.seek_stmt guide deep) ts) [])
         (λ ns. in_context (branching.side_ended (nodes.stuck stmt) names keep before ns))) (side_starts_fit facts k room)
-        (λ before t more. gives_then SideFits t BlockFound (nodes.in_order [] (map (statements.seek_stmt guide deep) ts))
+        (λ before t more. gives_then SideFits t BlockFound (nodes.in_order (map (statements.seek_stmt guide deep) ts) [])
         (λ ns. in_context (branching.side_ended (nodes.stuck stmt) names keep before ns))
         (in_order_fits ts each [] t tt more) (λ ns u b. side_ends_fit before ns u b.all b.room))
 
@@ -1141,7 +1184,7 @@ module _ (guide : Guide) (deep : ℕ) where
     for_fits : (x : Name) (low high : Expr) (body : List Stmt) → Fittings body → (k : Seeker) → Room k.ctx
         → Gives Fits (turns.seek_for guide deep at stmt x low high names keep (map (statements.seek_stmt guide deep) body) k)
     for_fits x low high body each k room =
-        let inner = nodes.in_order [] (map (statements.seek_stmt guide deep) body) in
+        let inner = nodes.in_order (map (statements.seek_stmt guide deep) body) [] in
         gives_then Fits k OpenedFits (turns.loop_opened guide deep at stmt x low high names keep)
         (λ o. then_seek inner (λ ns. in_context (turns.loop_ended at (nodes.stuck stmt) x names keep o.0.0 o.0.1 o.1 ns)))
         (loop_opened_fits x low high k room)
@@ -1164,8 +1207,8 @@ module _ (guide : Guide) (deep : ℕ) where
   abbrev open_ : Stmt-F Proved → Stmt-F Stmt
   open_ y = map-Stmt Proved Stmt (λ p. p.0) y
 
-  abbrev searches : Stmt-F Stmt → Stmt-F (Seek StmtNode)
-  searches shape = map-Stmt Stmt (Seek StmtNode) (statements.seek_stmt guide deep) shape
+  abbrev searches : Stmt-F Stmt → Stmt-F nodes.Adds
+  searches shape = map-Stmt Stmt nodes.Adds (statements.seek_stmt guide deep) shape
 
   shape_fits : (at n : ℕ) (k : Seeker) → Room k.ctx → (y : Stmt-F Proved)
       → Gives Fits (statements.statement guide deep at n (searches (open_ y)) k)
@@ -1179,12 +1222,17 @@ module _ (guide : Guide) (deep : ℕ) where
   shape_fits at n k room (s.Fold y a x v) = fold_fits guide deep n k room at y a x v
 
   opened_fits : (z : Stmt) (y : Stmt-F Proved) → out-Stmt z ≡ open_ y → Fitting z
-  opened_fits z y is k room =
-      let all : Gives Fits (statements.stmt_step guide deep (searches (open_ y)) k) =
-      gives_enter Fits k (λ at l. statements.statement guide deep at l.stmts (searches (open_ y))
-      (record l { stmts = l.stmts + 1 }))
-      (λ more. shape_fits k.entered k.stmts (record k { entered = k.entered + 1; stmts = k.stmts + 1 }) room y) in
-      rw (fold_out-Stmt (Seek StmtNode) (statements.stmt_step guide deep) z, is) all
+  opened_fits z y is done k all room =
+      let next : Seek StmtNode = statements.own_goal guide deep (searches (open_ y)) in
+      let found : Gives BlockFound (statements.stmt_step guide deep (searches (open_ y)) done k) =
+      gives_then BlockFound k BlockFound (notes.notes_before guide.lemmas (searches (open_ y)) done)
+      (λ ns. then_seek next (λ n. given (ns ++ n ∷ []))) (notes_fit (searches (open_ y)) guide.lemmas done k all room)
+      (λ ns t b. gives_then BlockFound t Fits next (λ n. given (ns ++ n ∷ []))
+      (gives_enter Fits t
+      (λ at l. statements.statement guide deep at l.stmts (searches (open_ y)) (record l { stmts = l.stmts + 1 }))
+      (λ more. shape_fits t.entered t.stmts (record t { entered = t.entered + 1; stmts = t.stmts + 1 }) b.room y))
+      (λ n u one. record { all = fit_behind ns n b.all one.fits; room = one.room })) in
+      rw (fold_out-Stmt nodes.Adds (statements.stmt_step guide deep) z, is) found
 
   found_stmt : (z : Stmt) → Fitting z
   found_stmt = ind-Stmt Fitting (λ z y is. subst (λ (r : Stmt-F Stmt). Fitting (roll-Stmt r)) is
@@ -1243,7 +1291,7 @@ module _ (lemmas : List Lemma) (turn : Turn) (m : Model) (params_few : length m.
 
   within_writable : (deep : ℕ) → derived_within deep lemmas turn m ≡ Ok d → IsWritable m d
   within_writable deep is =
-      by (nodes.in_order [] (map (statements.seek_stmt (guide_of lemmas turn m) deep) m.body) (at_start m))
+      by (nodes.in_order (map (statements.seek_stmt (guide_of lemmas turn m) deep) m.body) [] (at_start m))
       (in_order_fits (guide_of lemmas turn m) deep m.body (all_found (guide_of lemmas turn m) deep m.body) [] (at_start m) tt
       (start_room m params_few)) is
     where

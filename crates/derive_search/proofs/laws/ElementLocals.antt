@@ -12,10 +12,12 @@ use Rattle.derive_search.specs.Locals.{Homes, choice_after, new_choice, further}
 use Rattle.derive_search.specs.Elements.{◌>>=◌, map_locals, fold_locals, count_locals}
 use Rattle.derive_search.specs.Mapping.{map_args}
 use Rattle.derive_search.specs.Folding.{fold_args}
-use Rattle.derive_search.proofs.laws.Choosing.{after_in_range, new_in_range, further_in_range, new_unused, further_unused, further_untaken}
+use Rattle.derive_search.proofs.laws.Choosing.{after_in_range, new_in_range, further_in_range, new_unused, further_unused}
+use Rattle.derive_search.proofs.laws.Choosing.{further_untaken}
 
 -- what holds of each answer holds of the answer of the next step, where there is a first one
-bound : {A B : Type 0} (Q : Option B → Type 0) (o : Option A) (next : A → Option B) → Q None → ((a : A) → o ≡ Some a → Q (next a)) → Q (o >>= next)
+bound : {A B : Type 0} (Q : Option B → Type 0) (o : Option A) (next : A → Option B) → Q None → ((a : A) → o ≡ Some a → Q (next a))
+    → Q (o >>= next)
 bound Q None next none some = none
 bound Q (Some a) next none some = some a refl
 
@@ -89,13 +91,21 @@ module _ (h : Homes) (c : Context) where
 
   abbrev CountChosen : Option (ℕ × ℕ) → Type 0
   CountChosen None = Unit {0}
-  CountChosen (Some l) = (nat_le l.0 most_local ≡ true) × (nat_le l.1 most_local ≡ true) × (is_unused c l.0 ≡ true) × (is_unused c l.1 ≡ true) × (has l.1 (l.0 ∷ []) ≡ false)
+  CountChosen (Some l) = (nat_le l.0 most_local ≡ true) × (nat_le l.1 most_local ≡ true) × (is_unused c l.0 ≡ true)
+      × (is_unused c l.1 ≡ true) × (has l.1 (l.0 ∷ []) ≡ false)
 
   count_chosen : (x : Name) → CountChosen (count_locals h x c)
   count_chosen x =
       bound CountChosen (new_choice h x c) (λ li. further h (li ∷ []) c >>= (λ lh. Some (li, lh))) tt
       (λ li count. bound CountChosen (further h (li ∷ []) c) (λ lh. Some (li, lh)) tt
-      (λ lh last. (new_in_range h c x li count, further_in_range h c (li ∷ []) lh last, new_unused h c x li count, further_unused h c (li ∷ []) lh last, further_untaken h c (li ∷ []) lh last)))
+      (λ lh last. (
+        new_in_range h c x li count,
+        further_in_range h c (li ∷ []) lh last,
+        new_unused h c x li count,
+        further_unused
+            h c (li ∷ []) lh last,
+        further_untaken h c (li ∷ []) lh last,
+      )))
 
   pub count_holds : (x : Name) (l : ℕ × ℕ) → count_locals h x c ≡ Some l → CountChosen (Some l)
   count_holds x l is = subst CountChosen is (count_chosen x)

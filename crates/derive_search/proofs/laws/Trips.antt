@@ -1,5 +1,6 @@
 -- The trip form that is found is read back by the rule of loops, and it is shown that there are no more turns.
-use Rattle.std.proofs.Common.{◌≡◌, refl, subst, arith, ℕ, ◌≤◌, true, false, ℤ, List, [], ◌∷◌, length, Option, Some, None, option_map, option_and_then, is_some, ap, Ok}
+use Rattle.std.proofs.Common.{◌≡◌, refl, subst, arith, ℕ, ◌≤◌, true, false, ℤ, List, [], ◌∷◌, length, Option, Some, None}
+use Rattle.std.proofs.Common.{option_map, option_and_then, is_some, ap, Ok}
 use Rattle.std.specs.Option.{option_or}
 use Rattle.side_certs.specs.LinearForm.{LinearForm, within}
 use Rattle.side_certs.specs.declared.certificate.Cert.{Cert}
@@ -15,7 +16,8 @@ use Rattle.derive_search.specs.Trips.{with_form, with_args, trip_of, as_args, fi
 use Rattle.derive_search.proofs.Shown.{certificate_closes}
 
 -- a form whose certificate is the first of a node's is shown
-pub shown_first : (at : ℕ) (c : Context) (f : LinearForm) (k : Cert) (more : List Cert) → certificate_of c f ≡ Some k → shown at (k ∷ more) f c ≡ Ok (tt, c)
+pub shown_first : (at : ℕ) (c : Context) (f : LinearForm) (k : Cert) (more : List Cert) → certificate_of c f ≡ Some k
+    → shown at (k ∷ more) f c ≡ Ok (tt, c)
 shown_first at c f k more = by (within f)
   where
     by : (o : Option LinearForm) → option_and_then (certificate c) o ≡ Some k → shown_there at (k ∷ more) o c ≡ Ok (tt, c)
@@ -34,7 +36,8 @@ module _ (entries : ℕ) (c : Context) (low high : LinearForm) where
   with_args_holds : (args : List ℤ) → Found (with_args entries c low high args)
   with_args_holds args = by (entry_form entries (flat args)) refl
     where
-      by_cert : (t : LinearForm) → entry_form entries (flat args) ≡ Some t → (o : Option Cert) → certificate_of c (spare_trips t low high) ≡ o
+      by_cert : (t : LinearForm) → entry_form entries (flat args) ≡ Some t → (o : Option Cert)
+          → certificate_of c (spare_trips t low high) ≡ o
           → Found (option_map (λ k. record { args = args; form = t; cert = k }) o)
       by_cert t read None is = tt
       by_cert t read (Some k) is = record { read = read; enough = is }
@@ -49,7 +52,8 @@ module _ (entries : ℕ) (c : Context) (low high : LinearForm) where
 
   first_holds : (fs : List LinearForm) → Found (first_trip entries c low high fs)
   first_holds [] = tt
-  first_holds (f ∷ fs) = or_holds (trip_of entries c low high f) (first_trip entries c low high fs) (with_args_holds (as_args f)) (first_holds fs)
+  first_holds (f ∷ fs) = or_holds (trip_of entries c low high f) (first_trip entries c low high fs) (with_args_holds (as_args f))
+      (first_holds fs)
 
   pub trip_holds : (t : Trip) → trip_for entries c low high ≡ Some t → TripHolds t
   trip_holds t is = let one : Found (Some t) = subst Found is (first_holds (candidates entries low high)) in one

@@ -9,7 +9,6 @@ use Rattle.model_syntax.specs.declared.stmt.Stmt.TheOpen as s
 use Rattle.sym_heap.specs.declared.parts.Clause.{Clause}
 use Rattle.sym_heap.specs.Context.{Context}
 use Rattle.sym_heap.specs.Ends.{standing}
-use Rattle.equations.specs.Book.{Turn}
 use Rattle.deriv_tree.specs.Measure as measure
 use Rattle.deriv_tree.specs.declared.rule.Rule.TheVariants as rule
 use Rattle.expr_rules.specs.declared.output.ExprOut.{ExprOut}
@@ -46,11 +45,13 @@ record Started (at : ℕ) (a x : Name) (c : Context) (o : MapStart) (d : Context
 
 -- the rule's row, from what its steps give
 row_gives : (at : ℕ) (a x : Name) (v : Expr) (kid : Judged) (c d e f : Context) (o : MapStart) (p : ExprOut) (out : StmtOut)
-    → Started at a x c o d → kid.row (at + 1) v d ≡ Ok (p, e) → map_rule.after at a o.locals o.clause o.before p.code e ≡ Ok (out, f)
+    → Started at a x c o d → kid.row (at + 1) v d ≡ Ok (p, e) → map_rule.after at a o.locals o.clause o.before p.code e
+    ≡ Ok (out, f)
     → parts (step rule.SMap (search.map_args o.locals) []) (kid ∷ []) [] at (s.Map a x v) c ≡ Ok (out, f)
 row_gives at a x v kid c d e f o p out started runs ends =
     let read = map_read at o.locals c started.range in
-    let last : map_rule.after at a o.locals o.clause (standing started.between) p.code e ≡ Ok (out, f) = rw (sym started.before) ends in
+    let last : map_rule.after at a o.locals o.clause (standing started.between) p.code e
+    ≡ Ok (out, f) = rw (sym started.before) ends in
     rw (read, started.array, started.begins, runs) last
 
 module _ (h : Homes) (at stmt_number : ℕ) (a x : Name) (k : Seeker) where
@@ -61,7 +62,8 @@ module _ (h : Homes) (at stmt_number : ℕ) (a x : Name) (k : Seeker) where
     abbrev Opens : Type 0
     Opens = Gives Begins (with_context k (search.map_started (stuck stmt_number) l (map_opens at a x l k.ctx)))
 
-    by_begins : (b : Clause) (m : Context) → map_rule.array at a l k.ctx ≡ Ok (b, m) → (r : Result (Unit {0} × Context) Refusal) → map_rule.begins at a x l b m ≡ r → Opens
+    by_begins : (b : Clause) (m : Context) → map_rule.array at a l k.ctx ≡ Ok (b, m) → (r : Result (Unit {0} × Context) Refusal)
+        → map_rule.begins at a x l b m ≡ r → Opens
     by_begins b m array (Ok p) begins =
         rw (array, begins) (record { range = range; between = m; array = array; before = refl; begins = begins }, refl)
     by_begins b m array (Err refusal) begins = rw (array, begins) tt
@@ -72,19 +74,24 @@ module _ (h : Homes) (at stmt_number : ℕ) (a x : Name) (k : Seeker) where
 
   begun_gives : Gives Begins (in_context (search.map_begun h at (stuck stmt_number) a x) k)
   begun_gives = by (map_locals h x k.ctx) refl where
-    by : (o : Option ElementLocals) → map_locals h x k.ctx ≡ o → Gives Begins (with_context k (search.map_with at (stuck stmt_number) a x o k.ctx))
+    by : (o : Option ElementLocals) → map_locals h x k.ctx ≡ o
+        → Gives Begins (with_context k (search.map_with at (stuck stmt_number) a x o k.ctx))
     by None is = tt
     by (Some l) is = by_array l (map_in_range h k.ctx x l is) (map_rule.array at a l k.ctx) refl
 
 module _ (guide : Guide) (z : Stmt) (k : Seeker) (deep stmt_number : ℕ) where
-  pub map_derives : (a x : Name) (v : Expr) → out-Stmt z ≡ s.Map a x v → Gives (StmtDerives guide z k) (search.seek_map guide deep k.entered stmt_number a x v (begun k))
+  pub map_derives : (a x : Name) (v : Expr) → out-Stmt z ≡ s.Map a x v
+      → Gives (StmtDerives guide z k) (search.seek_map guide deep k.entered stmt_number a x v (begun k))
   map_derives a x v is =
-      gives_then (StmtDerives guide z k) (begun k) (Begins guide.homes k.entered stmt_number a x (begun k)) (in_context (search.map_begun guide.homes k.entered (stuck stmt_number) a x))
+      gives_then (StmtDerives guide z k) (begun k) (Begins guide.homes k.entered stmt_number a x (begun k))
+      (in_context (search.map_begun guide.homes k.entered (stuck stmt_number) a x))
       (λ o. then_seek (seek guide deep stmt_number v) (λ f. in_context (search.mapped k.entered (stuck stmt_number) a o f)))
       (begun_gives guide.homes k.entered stmt_number a x (begun k))
-      (λ o t b. gives_then (StmtDerives guide z k) t (Derives guide v t) (seek guide deep stmt_number v) (λ f. in_context (search.mapped k.entered (stuck stmt_number) a o f))
+      (λ o t b. gives_then (StmtDerives guide z k) t (Derives guide v t) (seek guide deep stmt_number v)
+      (λ f. in_context (search.mapped k.entered (stuck stmt_number) a o f))
       (expressions_derive guide deep stmt_number v t)
-      (λ f u d. ended_gives (StmtDerives guide z k) (search.map_node o.locals f.node) u (stuck stmt_number) (map_rule.after k.entered a o.locals o.clause o.before f.out.code u.ctx)
+      (λ f u d. ended_gives (StmtDerives guide z k) (search.map_node o.locals f.node) u (stuck stmt_number)
+      (map_rule.after k.entered a o.locals o.clause o.before f.out.code u.ctx)
       (λ out e ends.
       let same : t.entered ≡ k.entered + 1 = b.1 in let entered = d.entered in let sized = d.sized in
       let runs : (expr.judged guide.turn f.node).row (k.entered + 1) v t.ctx ≡ Ok (f.out, u.ctx) = rw (sym same) d.row in

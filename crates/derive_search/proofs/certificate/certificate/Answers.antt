@@ -12,5 +12,6 @@ returns-in-None-clause-found c =
 pub returns-in-Some-clause-found : goal.returns-in-Some-clause-found
 returns-in-Some-clause-found c =
     let few : has_few_facts c.args.ctx.now ≡ true = search rules in
-    certificate_is c.args.ctx.now c.args.goal.now (Some c.in-Some.cert) c.facts.result.now c.tops.result.now few c.facts.ensures c.tops.ensures
+    certificate_is c.args.ctx.now c.args.goal.now (Some c.in-Some.cert) c.facts.result.now c.tops.result.now few c.facts.ensures
+    c.tops.ensures
     (sym c.in-Some.is ∙ c.in_ok-find.ensures.found)

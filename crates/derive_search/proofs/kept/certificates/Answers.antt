@@ -18,7 +18,8 @@ loop-fact-preserved c =
     let done = c.loop-fact.certs in
     let rest = certificates x form (drop (i + 1) rs) in
     let at : drop i rs ≡ r ∷ drop (i + 1) rs = grind (arith, common_steps, c.fact-item.is, c.loop-fact-test.true) in
-    let all : all_narrow (r ∷ drop (i + 1) rs) ≡ true = subst (λ (l : List Le). all_narrow l ≡ true) at c.loop-fact.invariant.narrow in
+    let all : all_narrow (r ∷ drop (i + 1) rs)
+    ≡ true = subst (λ (l : List Le). all_narrow l ≡ true) at c.loop-fact.invariant.narrow in
     let here : certificate_of x (difference form r) ≡ Some c.in-Some.cert = sym c.in_ok-cert.ensures ∙ c.in-Some.is in
     record {
       narrow = narrow_left r (drop (i + 1) rs) all;

@@ -8,5 +8,6 @@ use Rattle.derive_search.proofs.kept.certificates.Given as goal
 abbrev pub invariant-loop-fact : goal.invariant-loop-fact
 invariant-loop-fact l = record {
   narrow : all_narrow (drop l.fact-index l.facts) ≡ true;
-  found : spec.after_those l.certs (spec.certificates l.ctx (form_of l.forms) (drop l.fact-index l.facts)) ≡ spec.certificates l.ctx (form_of l.forms) l.facts;
+  found : spec.after_those l.certs (spec.certificates l.ctx (form_of l.forms) (drop l.fact-index l.facts))
+      ≡ spec.certificates l.ctx (form_of l.forms) l.facts;
 }

@@ -9,4 +9,5 @@ pub locals-preserved : goal.locals-preserved
 locals-preserved c =
     let within : c.locals.local ≤ most_local = search rules in
     let no : spec.is_left c.args.taken.now c.args.ctx.now (option_copied c.args.x) c.locals.local ≡ false = search rules in
-    sym (least_on (spec.is_left c.args.taken.now c.args.ctx.now (option_copied c.args.x)) c.locals.local within no) ∙ c.locals.invariant
+    sym (least_on (spec.is_left c.args.taken.now c.args.ctx.now (option_copied c.args.x)) c.locals.local within no)
+    ∙ c.locals.invariant

@@ -16,7 +16,8 @@ element-returns-clause-found g t c =
     let there : is_some (own x.s.now.ctx x.a.now) ≡ true = search rules in
     where_step (λ d. is_some (own d x.a.now)) (spec.stuck x.stmt x.e.now) (spec.seek guide x.deep x.stmt x.index.now)
     (λ p. spec.chosen (spec.stuck x.stmt x.e.now) (p.node ∷ []) (element x.at x.a.now p.out ∷ []))
-    x.s.now c.seek.new.s c.in_ok-p.p c.element_row.result c.element_row.new.ctx there c.in_ok-p.ensures.found c.element_row.ensures
+    x.s.now c.seek.new.s c.in_ok-p.p c.element_row.result c.element_row.new.ctx there c.in_ok-p.ensures.found
+    c.element_row.ensures
 
 pub goal-returns-in-Some-clause-found : goal.goal-returns-in-Some-clause-found
 goal-returns-in-Some-clause-found g t c =

@@ -9,7 +9,7 @@ use Rattle.derive_search.proofs.statements.+statements.Given as goal
 -- the statements that are left give what all of them do
 abbrev pub invariant-seek_block-loop-t : goal.invariant-seek_block-loop-t
 invariant-seek_block-loop-t g l = record {
-  found : in_order l.nodes (map (spec.seek_stmt (guided g.B.Book.turn l.guide) l.deep) (drop l.t-index l.block)) l.s
+  found : in_order (map (spec.seek_stmt (guided g.B.Book.turn l.guide) l.deep) (drop l.t-index l.block)) l.nodes l.s
       ≡ spec.seek_block (guided g.B.Book.turn l.guide) l.deep l.block l.fn.s;
   fewer : l.s.stmts ≤ l.s.entered;
   narrow : are_narrow (drop l.t-index l.block) ≡ true;
@@ -19,19 +19,25 @@ invariant-seek_block-loop-t g l = record {
 -- Each call takes a statement or statements inside the one that it was called for, or the same one step further.
 
 abbrev pub decreases-seek_stmt : goal.decreases-seek_stmt
-decreases-seek_stmt g l = 6 * stmt_count l.t.now + 1
+decreases-seek_stmt g l = 7 * stmt_count l.t.now + 3
+
+abbrev pub decreases-own_node : goal.decreases-own_node
+decreases-own_node g l = 7 * stmt_count l.t.now + 2
+
+abbrev pub decreases-own_goal : goal.decreases-own_goal
+decreases-own_goal g l = 7 * stmt_count l.t.now + 1
 
 abbrev pub decreases-statement : goal.decreases-statement
-decreases-statement g l = 6 * stmt_count l.t.now
+decreases-statement g l = 7 * stmt_count l.t.now
 
 abbrev pub decreases-seek_if : goal.decreases-seek_if
-decreases-seek_if g l = 6 * (sum (map stmt_count l.first.now) + sum (map stmt_count l.second.now)) + 4
+decreases-seek_if g l = 7 * (sum (map stmt_count l.first.now) + sum (map stmt_count l.second.now)) + 6
 
 abbrev pub decreases-seek_for : goal.decreases-seek_for
-decreases-seek_for g l = 6 * sum (map stmt_count l.body.now) + 4
+decreases-seek_for g l = 7 * sum (map stmt_count l.body.now) + 6
 
 abbrev pub decreases-seek_side : goal.decreases-seek_side
-decreases-seek_side g l = 6 * sum (map stmt_count l.block.now) + 3
+decreases-seek_side g l = 7 * sum (map stmt_count l.block.now) + 5
 
 abbrev pub decreases-seek_block : goal.decreases-seek_block
-decreases-seek_block g l = 6 * sum (map stmt_count l.block.now) + 2
+decreases-seek_block g l = 7 * sum (map stmt_count l.block.now) + 4

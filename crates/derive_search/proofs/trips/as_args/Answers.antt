@@ -11,7 +11,8 @@ terms-preserved c =
     let one : c.push.new.self ≡ c.terms.args ++ pos t.0 ∷ [] = search rules in
     let two : c.push-in-terms.new.self ≡ c.push.new.self ++ t.1 ∷ [] = search rules in
     let inside : k + 1 ≤ length ts = search rules in
-    let both : c.push-in-terms.new.self ≡ (c.terms.args ++ pos t.0 ∷ []) ++ t.1 ∷ [] = two ∙ ap (λ (l : List ℤ). l ++ t.1 ∷ []) one in
+    let both : c.push-in-terms.new.self ≡ (c.terms.args ++ pos t.0 ∷ []) ++ t.1 ∷ [] =
+    two ∙ ap (λ (l : List ℤ). l ++ t.1 ∷ []) one in
     record {
       inside = inside;
       rest =
